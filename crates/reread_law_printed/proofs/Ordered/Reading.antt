@@ -1,27 +1,27 @@
 -- In a text the parts of a tree stand inside it and one after the other: one case for each
 -- alternative of a production.
-use Rattle.std.proofs.Common.{◌≡◌, ◌≤◌, ◌+◌, ◌-◌, ℕ, Bool, true, false, ◌&&◌, List, [], ◌∷◌, length, Option, Some, None, if◌then◌else◌, codes, refl, sym, ap, subst, ◌∙◌, arith}
+use Rattle.std.proofs.Common.{◌≡◌, ◌≤◌, ◌+◌, ◌-◌, ℕ, Bool, true, ◌&&◌, List, [], ◌∷◌, length, Option, Some, None, codes, sym, ap, subst, ◌∙◌, arith}
 use Rattle.std.proofs.lemmas.Bool.{and_parts}
 use Rattle.std.proofs.lemmas.Slice.Eq.{bytes_eq-Decides}
 use Rattle.std.specs.Str.{bytes_eq}
 use Rattle.mc_span.specs.declared.span.Span.{Span}
 use Rattle.mc_lex.specs.declared.token.Dialect.{Dialect}
-use Rattle.mc_tree.specs.Tree.{Expression, Expressions, Initializer, Initializers, Declarator, InitDeclarator, Declaration, ForStart, Statement, BlockItems, name_of, span_of, span_of_statement}
+use Rattle.mc_tree.specs.Tree.{Expression, Expressions, Initializer, Initializers, InitDeclarator, Declaration, ForStart, Statement, BlockItems, span_of, span_of_statement}
 use Rattle.mc_tree.specs.Tree as t
-use Rattle.mc_grammar.specs.Words.{Lexeme, is_punctuator, is_punctuator_kind, is_keyword, is_keyword_kind, is_identifier_kind, retag}
+use Rattle.mc_grammar.specs.Words.{Lexeme, is_punctuator, is_punctuator_kind, is_keyword, is_keyword_kind}
 use Rattle.mc_grammar.specs.Places.{at, to, end_of_expressions}
 use Rattle.mc_grammar.specs.Nonterminal.{Nonterminal, Level, operand}
 use Rattle.mc_grammar.specs.Nonterminal as n
 use Rattle.mc_grammar.specs.Expressions.{Reads, ReadsExpressions}
 use Rattle.mc_grammar.specs.Expressions as r
-use Rattle.mc_grammar.specs.Statements.{ReadsOptional, ReadsTest, ReadsInitializer, ReadsInitializers, ReadsInitDeclarator, ReadsInitDeclarators, ReadsDeclaration, ReadsForStart, ReadsStatement, ReadsCompound, ReadsBlockItems, after}
+use Rattle.mc_grammar.specs.Statements.{ReadsOptional, ReadsTest, ReadsInitializer, ReadsInitializers, ReadsInitDeclarator, ReadsInitDeclarators, ReadsDeclaration, ReadsForStart, ReadsStatement, ReadsCompound, ReadsBlockItems}
 use Rattle.mc_grammar.specs.Statements as g
 use Rattle.reread_law_texts.specs.alike.Moves.{FollowFrom, end_of}
 use Rattle.reread_law_texts.proofs.Apart.ApartExpressions.{apart_type_name, apart_specifiers, apart_declarator}
 use Rattle.reread_law_printed.specs.ordered.Laws.{BlocksAreNested}
 use Rattle.reread_law_printed.specs.ordered.Nested.{Nested, HoldsAll, InOptional, InInitializer, InInitializers, InObjects, InDeclaration, InStart, NestedStatement, InStatement, InBlock}
 use Rattle.reread_law_printed.proofs.Ordered.Going.{le, same, forward}
-use Rattle.reread_law_texts.proofs.Tokens.{tk}
+use Rattle.reread_law_texts.proofs.Tokens.{tk, after_tokens}
 
 -- ---- bytes
 
@@ -271,23 +271,6 @@ mutual
       record { end = more.end; holds = (one.end, one.holds, initializers_lower all _ (grows x one.follow.0) more.holds); follow = more.follow }
 
 -- ---- declarations
-
-abbrev marked : Bool → Lexeme → Lexeme
-marked b x = if b then record { token = x.token; names_type = true } else x
-
-same_token : (b : Bool) (x : Lexeme) → (marked b x).token ≡ x.token
-same_token true x = refl
-same_token false x = refl
-
-retag_tokens : (name : List ℕ) (ts : List Lexeme) → tk (retag name ts) ≡ tk ts
-unfolding retag
-retag_tokens name [] = refl
-retag_tokens name (x ∷ ts) =
-    ap (λ y. y ∷ tk (retag name ts)) (same_token (is_identifier_kind x.token.kind && bytes_eq x.token.text name) x) ∙ ap (λ us. x.token ∷ us) (retag_tokens name ts)
-
-after_tokens : (typedef : Bool) (d : Declarator) (ts : List Lexeme) → tk (after typedef d ts) ≡ tk ts
-after_tokens true d ts = retag_tokens (name_of d).text ts
-after_tokens false d ts = refl
 
 -- with those that follow it
 reads_init_declarator : {d : Dialect} {typedef : Bool} {ts rest : List Lexeme} {one : InitDeclarator} → ReadsInitDeclarator d typedef ts one rest → (c : ℕ) → FollowFrom c (tk ts)

@@ -11,7 +11,7 @@ use Rattle.reread_pieces.specs.declared.piece.What.TheVariants as what
 use Rattle.reread_pieces.specs.Words.{is}
 use Rattle.mc_probe.specs.Tree as p
 use Rattle.reread_law_texts.specs.alike.Moves.{Move, Fits, AllFit, FollowFrom, end_of, moved_span, moved_token, moved_tokens}
-use Rattle.mc_print.specs.Pens.{before, since, ends_item, last_item, type_words}
+use Rattle.mc_print.specs.Pens.{since, ends_item, last_item, type_words}
 use Rattle.reread_law_rows.specs.inserted.Rows.{Row, entry_row, rows_in_functions, rows_of}
 use Rattle.reread_law_printed.specs.parts.Parts.{Parts, own, copied, upto, into_body, row_part, place_by, place_of, takes_token, without_first, put, inserted, all_put, body_rows, exit_put, body, type_at, parts_in_function, parts_in_functions}
 use Rattle.reread_law_printed.specs.parts.Stands.{IsFunctionAmong, AreAmong}
@@ -19,9 +19,10 @@ use Rattle.reread_law_printed.specs.parts.Moved.{moved_row, IsMoved, AreMoved}
 use Rattle.reread_law_printed.specs.parts.Laws.{PartsMove}
 use Rattle.reread_law_printed.proofs.Parts.Tied.{Inner, inner_rows, Fit, FitsAll, FitAll, all_fit}
 use Rattle.reread_law_printed.proofs.Parts.Walked.{tied_body}
-use Rattle.reread_law_printed.proofs.Parts.Cut.{past_place, up_to, taken, is_before, not_before, first_place}
+use Rattle.reread_law_printed.proofs.Parts.Cut.{past_place, up_to, taken, first_place}
 use Rattle.reread_law_printed.proofs.Parts.Runs.{of_semicolon, one_byte, after_brace, after_exit, of_function}
 use Rattle.reread_law_printed.proofs.Parts.Trace.{starts_at, ends_at}
+use Rattle.reread_law_texts.proofs.Tokens.{is_before, not_before}
 
 -- ---- lists
 

@@ -20,9 +20,10 @@ use Rattle.reread_law_printed.specs.parts.Stands.{past_by, past, AreInOrder}
 use Rattle.reread_law_printed.specs.parts.Closed.{top, below, open_after, closes_with, MayClose, AllClose}
 use Rattle.reread_law_printed.proofs.Parts.Tied.{IsAlone, IsRound, Tied, none, alone, round, FitsAll, FitAll, added}
 use Rattle.reread_law_printed.proofs.Parts.Tied as tied
-use Rattle.reread_law_printed.proofs.Parts.Cut.{past_place, up_to, Left, left_upto, is_before, not_before, before_is, first_place, follow_after, found, not_past}
+use Rattle.reread_law_printed.proofs.Parts.Cut.{past_place, up_to, Left, left_upto, before_is, first_place, follow_after, found, not_past}
 use Rattle.reread_law_printed.proofs.Parts.Runs.{token_left, of_semicolon, one_byte, last_ends, met}
 use Rattle.reread_law_printed.proofs.Parts.Trace.{last_of}
+use Rattle.reread_law_texts.proofs.Tokens.{is_before, not_before}
 
 -- ---- brackets of the source alone
 
@@ -83,7 +84,7 @@ of_texts a b x s t e f o c k = record {
   ends = ap (λ l. closes_with l (Some x)) (same_text b.text t f) ∙ k;
 }
 
-is_pair_of : (a b : Tok) → is_pair a b ≡ true → IsPair a b
+pub is_pair_of : (a b : Tok) → is_pair a b ≡ true → IsPair a b
 is_pair_of a b = by_tests (is (codes "(") a) (is (codes ")") b) (is (codes "[") a) (is (codes "]") b) (is (codes "{") a) (is (codes "}") b) refl refl refl refl refl refl
   where
     by_tests : (c d e f g h : Bool) → is (codes "(") a ≡ c → is (codes ")") b ≡ d → is (codes "[") a ≡ e → is (codes "]") b ≡ f → is (codes "{") a ≡ g → is (codes "}") b ≡ h

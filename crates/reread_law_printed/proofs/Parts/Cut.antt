@@ -4,6 +4,7 @@ use Rattle.std.proofs.lemmas.Bool.Decides.{nat_tests}
 use Rattle.mc_lex.specs.Tokens.{Tok}
 use Rattle.reread_law_texts.specs.alike.Moves.{FollowFrom, end_of}
 use Rattle.mc_print.specs.Pens.{before}
+use Rattle.reread_law_texts.proofs.Tokens.{is_before, not_before}
 
 -- those that do not start before a byte, from the first such one on
 abbrev pub past_place : ℕ → List Tok → List Tok
@@ -16,12 +17,6 @@ up_to at [] = []
 up_to at (t ∷ ts) = cond (nat_lt t.start at) (t ∷ up_to at ts) []
 
 -- ---- numbers
-
-pub is_before : (n m : ℕ) → n < m → nat_lt n m ≡ true
-is_before n m h = grind (arith, nat_tests)
-
-pub not_before : (n m : ℕ) → m ≤ n → nat_lt n m ≡ false
-not_before n m h = grind (arith, nat_tests)
 
 pub before_is : (n m : ℕ) → nat_lt n m ≡ true → n < m
 before_is n m h = grind (arith, nat_tests)

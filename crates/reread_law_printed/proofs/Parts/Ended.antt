@@ -18,10 +18,11 @@ use Rattle.reread_law_printed.specs.parts.Closed.{closes_with, AllClose, AreBala
 use Rattle.reread_law_printed.specs.parts.Laws.{PartsClose}
 use Rattle.reread_law_printed.proofs.Parts.Tied.{Fit, FitAll, all_fit}
 use Rattle.reread_law_printed.proofs.Parts.Walked.{tied_body}
-use Rattle.reread_law_printed.proofs.Parts.Cut.{past_place, up_to, Left, left_later, left_upto, is_before, found, has_text, not_past, joined}
+use Rattle.reread_law_printed.proofs.Parts.Cut.{past_place, up_to, Left, left_later, left_upto, found, has_text, not_past, joined}
 use Rattle.reread_law_printed.proofs.Parts.Runs.{after_exit, of_function, State, name_place, closing_place, follows_front, follows_body, whole_body}
 use Rattle.reread_law_printed.proofs.Parts.Runs as runs
 use Rattle.reread_law_printed.proofs.Parts.Closing.{own_after, own_run, and_then, Neutral, neutral_token, no_bracket, balanced, what_by, up_further, up_none, up_start, up_end, IsOwnBracket, Frame, token_step, close_upto, begun, finished, some_is, none_not, end_from, order_end, close_rows}
+use Rattle.reread_law_texts.proofs.Tokens.{is_before}
 
 -- ---- with more below
 

@@ -31,9 +31,9 @@ use Rattle.reread_law_printed.proofs.Spelled.Printed.{kinds_kept}
 use Rattle.reread_law_printed.specs.parts.Parts.{Part, own, row_part, row_texts}
 use Rattle.reread_law_printed.specs.parts.Marks.{after, mark_of, marks_from, own_tokens}
 use Rattle.reread_law_printed.specs.parts.Laws.{OwnTokensAreAlike, ProbesAreThere, PlainIsPoured}
-use Rattle.reread_law_printed.proofs.Parts.Cut.{is_before, not_before}
 use Rattle.reread_law_printed.proofs.Parts.Trace.{IsOwn, source, opens, closes, At, AtEnd, FirstAt, FirstBefore, floor_after, Trace, ends, copy, row, semicolon, traced}
 use Rattle.reread_law_printed.proofs.Parts.Trace as trace
+use Rattle.reread_law_texts.proofs.Tokens.{is_before, not_before}
 
 -- ---- lists
 

@@ -21,30 +21,30 @@ use Rattle.reread_law_printed.specs.parts.Laws.{PlacedPartsAreShaped}
 
 -- ---- the innermost is the last
 
-abbrev turned : List Bracket → List Bracket
+abbrev pub turned : List Bracket → List Bracket
 turned [] = []
 turned (b ∷ bs) = turned bs ++ b ∷ []
 
-last_get : (xs : List Bracket) (b : Bracket) → slice_get (xs ++ b ∷ []) (length xs) ≡ Some b
+pub last_get : (xs : List Bracket) (b : Bracket) → slice_get (xs ++ b ∷ []) (length xs) ≡ Some b
 last_get [] b = refl
 last_get (x ∷ xs) b = last_get xs b
 
-all_but_last : (xs : List Bracket) (b : Bracket) → take (length xs) (xs ++ b ∷ []) ≡ xs
+pub all_but_last : (xs : List Bracket) (b : Bracket) → take (length xs) (xs ++ b ∷ []) ≡ xs
 all_but_last [] b = refl
 all_but_last (x ∷ xs) b = ap (λ l. x ∷ l) (all_but_last xs b)
 
-one_less : (xs : List Bracket) (b : Bracket) → length (xs ++ b ∷ []) - 1 ≡ length xs
+pub one_less : (xs : List Bracket) (b : Bracket) → length (xs ++ b ∷ []) - 1 ≡ length xs
 one_less xs b = let e = length-append xs (b ∷ []) in omega (arith, e)
 
-innermost_is : (bs : List Bracket) → innermost (turned bs) ≡ top bs
+pub innermost_is : (bs : List Bracket) → innermost (turned bs) ≡ top bs
 innermost_is [] = refl
 innermost_is (b ∷ bs) = ap (slice_get (turned bs ++ b ∷ [])) (one_less (turned bs) b) ∙ last_get (turned bs) b
 
-without_last : (bs : List Bracket) → take (length (turned bs) - 1) (turned bs) ≡ turned (below bs)
+pub without_last : (bs : List Bracket) → take (length (turned bs) - 1) (turned bs) ≡ turned (below bs)
 without_last [] = refl
 without_last (b ∷ bs) = ap (λ n. take n (turned bs ++ b ∷ [])) (one_less (turned bs) b) ∙ all_but_last (turned bs) b
 
-with_opened : (bs : List Bracket) (o : Option Bracket) → turned bs ++ option_to_list o ≡ turned (option_to_list o ++ bs)
+pub with_opened : (bs : List Bracket) (o : Option Bracket) → turned bs ++ option_to_list o ≡ turned (option_to_list o ++ bs)
 with_opened bs None = append-nil (turned bs)
 with_opened bs (Some b) = refl
 

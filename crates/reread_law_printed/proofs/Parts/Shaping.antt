@@ -36,7 +36,7 @@ module _ {X : Type 0} where
 all_true : (a b : Bool) → a ≡ true → b ≡ true → (a && b) ≡ true
 all_true a b e f = ap (λ c. c && b) e ∙ f
 
-and_false : (a b : Bool) → b ≡ false → (a && b) ≡ false
+pub and_false : (a b : Bool) → b ≡ false → (a && b) ≡ false
 and_false true b e = e
 and_false false b e = refl
 

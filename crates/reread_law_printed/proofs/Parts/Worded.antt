@@ -18,8 +18,9 @@ use Rattle.reread_law_printed.specs.parts.Parts as parts
 use Rattle.reread_law_printed.specs.parts.Laws.{WordsOfParts}
 use Rattle.reread_law_printed.proofs.Parts.Tied.{step, steps, steps_tied}
 use Rattle.reread_law_printed.proofs.Parts.Walked.{tied_body}
-use Rattle.reread_law_printed.proofs.Parts.Cut.{past_place, dropped, is_before, not_before, before_is, passes, stops}
+use Rattle.reread_law_printed.proofs.Parts.Cut.{past_place, dropped, before_is, passes, stops}
 use Rattle.reread_law_printed.proofs.Parts.Runs.{Meets, MeetsEnd, StartsFrom, after_row, Runs, after_brace, after_exit, RunsAll, all_run}
+use Rattle.reread_law_texts.proofs.Tokens.{is_before, not_before}
 
 -- ---- lists
 

@@ -18,12 +18,13 @@ use Rattle.reread_law_rows.specs.inserted.Fits.{StartsAt, EndsAt, StandsAmong, I
 use Rattle.reread_law_printed.specs.parts.Parts.{Part, Parts, copied, upto, row_part, row_texts, place_by, place_of, takes_token, without_first, put, inserted, words_of}
 use Rattle.reread_law_printed.specs.parts.Shaped.{tokens_at}
 use Rattle.reread_law_printed.specs.parts.Stands.{past_by, AreInOrder}
-use Rattle.reread_law_printed.proofs.Parts.Cut.{past_place, Left, left_later, follow_after, has_text, is_before, not_before, before_not}
+use Rattle.reread_law_printed.proofs.Parts.Cut.{past_place, Left, left_later, follow_after, has_text, before_not}
 use Rattle.reread_law_printed.proofs.Parts.Runs.{TokenAt, token_left, met}
 use Rattle.reread_law_printed.proofs.Parts.Tied.{IsAlone, declaration, label, absent, IsRound, statement, value, bare, decision, condition, switch, Tied, none, both, alone, round, Inner, FitsAll, FitAll}
 use Rattle.reread_law_printed.specs.placed.Separate.{ComesAfter, ComesBefore, Ends, HasTwoBefore, AreSeparateAfter}
 use Rattle.reread_law_printed.proofs.Placed.FollowedWords.{first_false, IsKept, Keeps, mild_end, Declares, declares, declares_two, Comes, comes_declaration, no_declaration, no_hit, opens_declaration, own_text}
 use Rattle.reread_law_printed.proofs.Placed.FollowedParts.{AllKept, kept_past, kept_without, Good, good_upto, row_spells, is_declaration, row_no_hit}
+use Rattle.reread_law_texts.proofs.Tokens.{is_before, not_before}
 
 -- ---- rows that do not stand last
 

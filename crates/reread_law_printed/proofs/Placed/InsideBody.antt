@@ -28,6 +28,7 @@ use Rattle.reread_law_printed.proofs.Parts.Told.{copied_is}
 use Rattle.reread_law_printed.specs.placed.Heads.{has_body, IsHead, HaveHeads}
 use Rattle.reread_law_printed.proofs.Placed.InsideState.{is_in, parenthesis, Says, AllIn, run, last_parenthesis, run_both, in_both}
 use Rattle.reread_law_printed.proofs.Placed.InsideForm.{stop, middle, exit_parts, front_parts, body_parts, head_of, form, neither, IsPlain, plain_all, after_state}
+use Rattle.reread_law_printed.proofs.Parts.Shaping.{and_false}
 
 -- ---- no `{` of a body
 
@@ -153,10 +154,6 @@ parenthesis_is t = by_tests (is (codes "(") t) refl (is (codes "[") t) refl (is 
     by_tests false e false f true g d = sym (no_other t (codes "{") g refl)
     by_tests false e false f false g true = refl
     by_tests false e false f false g false = refl
-
-and_false : (a b : Bool) → b ≡ false → (a && b) ≡ false
-and_false true b e = e
-and_false false b e = refl
 
 only_first : (b c : Bool) → c ≡ true → (b && c) ≡ false → b ≡ false
 only_first true c e f = absurd (true_not (sym e ∙ f))

@@ -18,10 +18,11 @@ use Rattle.reread_law_printed.specs.parts.Parts.{Part, Parts, own, copied, upto,
 use Rattle.reread_law_printed.specs.parts.Stands.{past, AreInOrder, is_brace, IsFunctionAmong, AreAmong}
 use Rattle.reread_law_printed.proofs.Parts.Tied.{Fit, FitAll, all_fit}
 use Rattle.reread_law_printed.proofs.Parts.Walked.{tied_body}
-use Rattle.reread_law_printed.proofs.Parts.Cut.{past_place, up_to, Left, left_later, is_before, before_is, taken, joined, found, beyond, not_past, has_text}
+use Rattle.reread_law_printed.proofs.Parts.Cut.{past_place, up_to, Left, left_later, before_is, taken, joined, found, beyond, not_past, has_text}
 use Rattle.reread_law_printed.proofs.Parts.Runs.{after_row, met, of_function, State, name_place, closing_place, follows_front, follows_body, follows_after, whole_body, whole_after}
 use Rattle.reread_law_printed.proofs.Parts.Closing.{up_start, up_end}
 use Rattle.reread_law_printed.specs.placed.Heads.{is_apart, IsHead, HaveHeads}
+use Rattle.reread_law_texts.proofs.Tokens.{is_before}
 
 -- ---- the form
 

@@ -1,6 +1,5 @@
 -- What is open at each part, and whether a `)` stands directly before it.
-use Rattle.std.proofs.Common.{◌≡◌, ◌-◌, ℕ, Bool, true, false, ◌&&◌, ◌||◌, not, cond, List, [], ◌∷◌, ◌++◌, length, take, Option, Some, None, codes, refl, sym, ap, subst, ◌∙◌, arith, append-nil, length-append}
-use Rattle.std.specs.List.{slice_get}
+use Rattle.std.proofs.Common.{◌≡◌, ◌-◌, ℕ, Bool, true, false, ◌&&◌, ◌||◌, not, cond, List, [], ◌∷◌, ◌++◌, length, take, Some, codes, refl, sym, ap, subst, ◌∙◌}
 use Rattle.std.specs.Prelude.{option_to_list}
 use Rattle.std.specs.Str.{bytes_eq}
 use Rattle.mc_lex.specs.Tokens.{Tok}
@@ -19,35 +18,9 @@ use Rattle.reread_law_printed.specs.parts.Marks as marks
 use Rattle.reread_law_printed.specs.parts.Closed.{top, below, open_after, first_text, MayClose, AllClose}
 use Rattle.reread_law_printed.specs.parts.Shaped.{after_part}
 use Rattle.reread_law_printed.specs.placed.Needs.{InsideBy, Inside, Along}
+use Rattle.reread_law_printed.proofs.Parts.Placing.{turned, innermost_is, without_last, with_opened}
 
 -- ---- the innermost is the last
-
-abbrev pub turned : List Bracket → List Bracket
-turned [] = []
-turned (b ∷ bs) = turned bs ++ b ∷ []
-
-last_get : (xs : List Bracket) (b : Bracket) → slice_get (xs ++ b ∷ []) (length xs) ≡ Some b
-last_get [] b = refl
-last_get (x ∷ xs) b = last_get xs b
-
-all_but_last : (xs : List Bracket) (b : Bracket) → take (length xs) (xs ++ b ∷ []) ≡ xs
-all_but_last [] b = refl
-all_but_last (x ∷ xs) b = ap (λ l. x ∷ l) (all_but_last xs b)
-
-one_less : (xs : List Bracket) (b : Bracket) → length (xs ++ b ∷ []) - 1 ≡ length xs
-one_less xs b = let e = length-append xs (b ∷ []) in omega (arith, e)
-
-pub innermost_is : (bs : List Bracket) → innermost (turned bs) ≡ top bs
-innermost_is [] = refl
-innermost_is (b ∷ bs) = ap (slice_get (turned bs ++ b ∷ [])) (one_less (turned bs) b) ∙ last_get (turned bs) b
-
-without_last : (bs : List Bracket) → take (length (turned bs) - 1) (turned bs) ≡ turned (below bs)
-without_last [] = refl
-without_last (b ∷ bs) = ap (λ n. take n (turned bs ++ b ∷ [])) (one_less (turned bs) b) ∙ all_but_last (turned bs) b
-
-with_opened : (bs : List Bracket) (o : Option Bracket) → turned bs ++ option_to_list o ≡ turned (option_to_list o ++ bs)
-with_opened bs None = append-nil (turned bs)
-with_opened bs (Some b) = refl
 
 pub brackets_are : (bs : List Bracket) (w : What) → brackets_after (turned bs) w ≡ turned (open_after bs w)
 brackets_are bs w = by_test (closes w)

@@ -29,12 +29,12 @@ use Rattle.reread_law_printed.proofs.Parts.Worded as worded
 use Rattle.reread_law_printed.specs.placed.Needs.{Typed, Along}
 use Rattle.reread_law_printed.specs.placed.Heads.{IsHead, HaveHeads}
 use Rattle.reread_law_printed.specs.placed.Laws.{begun, ValuesAreTyped}
-use Rattle.reread_law_printed.proofs.Placed.InsideState.{turned}
 use Rattle.reread_law_printed.proofs.Placed.InsideForm.{stop, middle, exit_parts, front_parts, body_parts, head_of, form, plain_all, after_state}
 use Rattle.reread_law_printed.proofs.Placed.InsideBody.{copied_plain, plain_row, head_run, body_run, closing_what, run_neutral}
 use Rattle.reread_law_printed.proofs.Placed.Inside.{at_start, parts_are}
 use Rattle.reread_law_printed.proofs.Placed.TypedWords.{item_words, words_are, texts_at, words_both, copied_words, type_is}
 use Rattle.reread_law_printed.proofs.Placed.TypedItem.{item_run, item_both, TypeFits, Fine, advance, of_texts, paired, within, plain_item, plain_items, last_semicolon, ended_item}
+use Rattle.reread_law_printed.proofs.Parts.Placing.{turned}
 
 -- ---- the parts are of a type
 

@@ -1,5 +1,5 @@
 -- The text of the external declaration at each part, and the type of values.
-use Rattle.std.proofs.Common.{◌≡◌, ℕ, Bool, true, false, cond, ◌&&◌, ◌||◌, List, [], ◌∷◌, ◌++◌, map, drop, Some, codes, refl, sym, ap, subst, ◌∙◌, append_assoc}
+use Rattle.std.proofs.Common.{◌≡◌, ℕ, Bool, true, false, cond, ◌&&◌, List, [], ◌∷◌, ◌++◌, map, drop, Some, codes, refl, sym, ap, subst, ◌∙◌, append_assoc}
 use Rattle.std.proofs.lemmas.List.{map-append}
 use Rattle.std.specs.List.{AllByRecursion as Each}
 use Rattle.std.specs.Str.{bytes_eq}
@@ -13,18 +13,19 @@ use Rattle.reread_pieces.specs.Words.{is}
 use Rattle.reread_pieces.specs.Rows.{is_nothing, is_body}
 use Rattle.reread_pieces.specs.Pieces.{Here, innermost, site_of, brackets_after, ends_item, value_shape, is_front}
 use Rattle.mc_print.specs.Pens.{texts_of}
-use Rattle.reread_law_rows.specs.inserted.Fits.{IsBalanced, nothing, other, pair, is_pair, is_bracket, last_is}
+use Rattle.reread_law_rows.specs.inserted.Fits.{IsBalanced, nothing, other, pair, is_bracket, last_is}
 use Rattle.reread_law_printed.specs.parts.Parts.{Part, what_of, own, copied, words_of}
 use Rattle.reread_law_printed.specs.parts.Marks.{first_token}
 use Rattle.reread_law_printed.specs.parts.Marks as marks
 use Rattle.reread_law_printed.specs.parts.Closed.{top, open_after, first_text}
 use Rattle.reread_law_printed.specs.parts.Shaped.{tokens_at, after_part}
-use Rattle.reread_law_printed.proofs.Parts.Closing.{Neutral, no_bracket, balanced, what_by}
+use Rattle.reread_law_printed.proofs.Parts.Closing.{Neutral, no_bracket, balanced, what_by, is_pair_of}
 use Rattle.reread_law_printed.specs.placed.Needs.{TypeBy, Typed, Along}
-use Rattle.reread_law_printed.proofs.Placed.InsideState.{turned, innermost_is, brackets_are, run, run_both}
+use Rattle.reread_law_printed.proofs.Placed.InsideState.{brackets_are, run, run_both}
 use Rattle.reread_law_printed.proofs.Placed.InsideBody.{NoBody, run_neutral}
 use Rattle.reread_law_printed.proofs.Placed.InsideForm.{IsPlain}
 use Rattle.reread_law_printed.proofs.Placed.TypedWords.{texts_at, words_both}
+use Rattle.reread_law_printed.proofs.Parts.Placing.{turned, innermost_is}
 
 -- ---- where an external declaration ends
 
@@ -124,20 +125,6 @@ of_texts a b x s t e f o c k = record {
   closes = what_by b t (same_text b.text t f) ∙ c;
   inner = k;
 }
-
-is_pair_of : (a b : Tok) → is_pair a b ≡ true → IsPair a b
-is_pair_of a b = by_tests (is (codes "(") a) (is (codes ")") b) (is (codes "[") a) (is (codes "]") b) (is (codes "{") a) (is (codes "}") b) refl refl refl refl refl refl
-  where
-    by_tests : (c d e f g h : Bool) → is (codes "(") a ≡ c → is (codes ")") b ≡ d → is (codes "[") a ≡ e → is (codes "]") b ≡ f → is (codes "{") a ≡ g → is (codes "}") b ≡ h
-        → (c && d || e && f || g && h) ≡ true → IsPair a b
-    by_tests true true e f g h p q r s t u all = of_texts a b bracket.Parenthesis (codes "(") (codes ")") p q refl refl refl
-    by_tests false d true true g h p q r s t u all = of_texts a b bracket.Square (codes "[") (codes "]") r s refl refl refl
-    by_tests true false true true g h p q r s t u all = of_texts a b bracket.Square (codes "[") (codes "]") r s refl refl refl
-    by_tests false d false f true true p q r s t u all = of_texts a b bracket.Brace (codes "{") (codes "}") t u refl refl refl
-    by_tests false d true false true true p q r s t u all = of_texts a b bracket.Brace (codes "{") (codes "}") t u refl refl refl
-    by_tests true false false f true true p q r s t u all = of_texts a b bracket.Brace (codes "{") (codes "}") t u refl refl refl
-    by_tests true false true false true true p q r s t u all = of_texts a b bracket.Brace (codes "{") (codes "}") t u refl refl refl
-    by_tests c d e f g h p q r s t u all = absurd (cc)
 
 -- what stands in brackets ends nothing
 abbrev Within : List Tok → Type 0
