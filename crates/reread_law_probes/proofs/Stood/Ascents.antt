@@ -1,5 +1,5 @@
 -- Expressions with the places of their steps follow each other in a text.
-use Rattle.std.proofs.Common.{◌≡◌, ◌≤◌, ◌<◌, ◌+◌, ◌-◌, ◌&&◌, inl, inr, ℕ, Bool, true, false, List, [], ◌∷◌, length, codes, refl, sym, ap, subst, arith}
+use Rattle.std.proofs.Common.{◌≡◌, ◌≤◌, ◌<◌, ◌+◌, ◌-◌, ◌&&◌, inr, ℕ, Bool, true, false, List, ◌∷◌, length, codes, refl, sym, ap, subst, arith}
 use Rattle.std.proofs.Math.Nat.{min-eq_left}
 use Rattle.mc_span.specs.declared.span.Span.{Span}
 use Rattle.mc_lex.specs.Tokens.{Tok}
@@ -12,31 +12,10 @@ use Rattle.mc_grammar.specs.Operators.{IsStep, increment, decrement}
 use Rattle.mc_grammar.specs.Places.{at, to}
 use Rattle.reread_law_texts.specs.alike.Moves.{FollowFrom, end_of}
 use Rattle.reread_law_texts.specs.apart.Places.{Spans}
-use Rattle.reread_law_texts.proofs.Apart.Ascending.{Sooner, Chain, From, Part}
+use Rattle.reread_law_texts.proofs.Apart.Ascending.{Sooner, Chain, From, Part, from_lower, chain_from, forward_of}
 use Rattle.laws_types.specs.Source.{first_two, last_two}
 use Rattle.reread_law_probes.specs.stood.Stands.{stands, stands_in_expressions}
-
--- ---- the order of places
-
-from_lower : (n m : ℕ) (ps : List Span) → n ≤ m → From m ps → From n ps
-from_lower n m [] h k = tt
-from_lower n m (p ∷ ps) h k = (omega (arith, h, k.0), k.1, k.2)
-
-chain_from : (s : Span) (n : ℕ) (ps : List Span) → s.start < n → From n ps → Chain s ps
-chain_from s n [] h k = tt
-chain_from s n (p ∷ ps) h k = (inl (omega (arith, h, k.0)), k.1, k.2)
-
-reflexive : (n : ℕ) → n ≤ n
-reflexive n = omega arith
-
-transitive : (a b c : ℕ) → a ≤ b → b ≤ c → a ≤ c
-transitive a b c h k = omega (arith, h, k)
-
-ends_later : (c start length : ℕ) → c ≤ start → c ≤ start + length
-ends_later c start length h = omega (arith, h)
-
-ends_after : (c start length : ℕ) → c ≤ start → 0 < length → c < start + length
-ends_after c start length h k = omega (arith, h, k)
+use Rattle.reread_law_texts.proofs.Tokens.{ends_after}
 
 -- ---- expressions
 
@@ -87,9 +66,6 @@ node_from {c = c} a p ps k = subst (λ qs. From c qs) (sym (opened a ps)) (p.low
 
 node_chain : {c : ℕ} {rest : List Tok} (s : Span) (a : Expression) → Node c rest a → Sooner s (span_of a) → (ps : List Span) → From (span_of a).end ps → Chain s (stands a ps)
 node_chain s a p h ps k = subst (λ qs. Chain s qs) (sym (opened a ps)) (h, p.bytes, p.goes ps k)
-
-forward_of : (c start end : ℕ) → c ≤ start → start < end → c ≤ end
-forward_of c start end h k = omega (arith, h, k)
 
 pub as_part : {c : ℕ} {rest : List Tok} (a : Expression) → Node c rest a → Part c (span_of a).end rest (stands a)
 as_part {c = c} a p =

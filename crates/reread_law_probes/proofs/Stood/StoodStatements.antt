@@ -1,13 +1,12 @@
 -- The places of the expressions in an initializer, a declaration, a statement and an item
 -- follow each other: one case for each alternative of a production.
-use Rattle.std.proofs.Common.{◌≡◌, ℕ, Bool, true, false, ◌&&◌, List, [], ◌∷◌, Option, if◌then◌else◌, refl, sym, ap, subst, ◌∙◌}
-use Rattle.std.specs.Str.{bytes_eq}
+use Rattle.std.proofs.Common.{ℕ, Bool, List, ◌∷◌, Option, sym, ap, subst, ◌∙◌}
 use Rattle.mc_span.specs.declared.span.Span.{Span}
 use Rattle.mc_lex.specs.declared.token.Dialect.{Dialect}
 use Rattle.mc_lex.specs.Tokens.{Tok}
-use Rattle.mc_tree.specs.Tree.{Expression, Specifiers, Declarator, Initializer, Initializers, InitDeclarator, Declaration, ForStart, Statement, BlockItems, Item, name_of}
-use Rattle.mc_grammar.specs.Words.{Lexeme, is_identifier_kind, retag, lexemes_of}
-use Rattle.mc_grammar.specs.Statements.{ReadsOptional, ReadsTest, ReadsInitializer, ReadsInitializers, ReadsInitDeclarator, ReadsInitDeclarators, ReadsDeclaration, ReadsForStart, ReadsStatement, ReadsCompound, ReadsBlockItems, after}
+use Rattle.mc_tree.specs.Tree.{Expression, Specifiers, Initializer, Initializers, InitDeclarator, Declaration, ForStart, Statement, BlockItems, Item}
+use Rattle.mc_grammar.specs.Words.{Lexeme}
+use Rattle.mc_grammar.specs.Statements.{ReadsOptional, ReadsTest, ReadsInitializer, ReadsInitializers, ReadsInitDeclarator, ReadsInitDeclarators, ReadsDeclaration, ReadsForStart, ReadsStatement, ReadsCompound, ReadsBlockItems}
 use Rattle.mc_grammar.specs.Statements as g
 use Rattle.mc_grammar.specs.Items.{ReadsItem, ReadsUnit, IsTree}
 use Rattle.mc_grammar.specs.Items as i
@@ -17,30 +16,7 @@ use Rattle.reread_law_texts.proofs.Apart.ApartExpressions.{stars_apart, apart_sp
 use Rattle.reread_law_probes.specs.stood.Stands.{stands, stands_in_initializer, stands_in_initializers, stands_in_init_declarator, stands_in_init_declarators, stands_in_declaration, stands_in_optional, stands_in_start, stands_in_statement, stands_in_block, stands_in_item, stands_in_unit}
 use Rattle.reread_law_probes.proofs.Stood.Ascents.{as_part}
 use Rattle.reread_law_probes.proofs.Stood.StoodExpressions.{stood}
-use Rattle.reread_law_texts.proofs.Tokens.{tk}
-
-same_tokens : (tokens : List Tok) → tk (lexemes_of tokens) ≡ tokens
-same_tokens [] = refl
-same_tokens (x ∷ tokens) = ap (λ us. x ∷ us) (same_tokens tokens)
-
--- ---- typedef names
-
-abbrev marked : Bool → Lexeme → Lexeme
-marked b x = if b then record { token = x.token; names_type = true } else x
-
-same_token : (b : Bool) (x : Lexeme) → (marked b x).token ≡ x.token
-same_token true x = refl
-same_token false x = refl
-
-retag_tokens : (name : List ℕ) (ts : List Lexeme) → tk (retag name ts) ≡ tk ts
-unfolding retag
-retag_tokens name [] = refl
-retag_tokens name (x ∷ ts) =
-    ap (λ t. t ∷ tk (retag name ts)) (same_token (is_identifier_kind x.token.kind && bytes_eq x.token.text name) x) ∙ ap (λ us. x.token ∷ us) (retag_tokens name ts)
-
-after_tokens : (typedef : Bool) (d : Declarator) (ts : List Lexeme) → tk (after typedef d ts) ≡ tk ts
-after_tokens true d ts = retag_tokens (name_of d).text ts
-after_tokens false d ts = refl
+use Rattle.reread_law_texts.proofs.Tokens.{tk, same_tokens, after_tokens}
 
 -- ---- declarations
 

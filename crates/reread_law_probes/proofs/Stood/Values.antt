@@ -20,7 +20,8 @@ use Rattle.laws_types.specs.Source.{first_two, last_two, IsOneAt, IsNumberOf, Is
 use Rattle.laws_types.specs.Source as of
 use Rattle.reread_law_probes.specs.stood.Stands.{stands, stands_in_expressions}
 use Rattle.reread_law_probes.proofs.Stood.Counted.{Within, keep, skip, drop, hold, release}
-use Rattle.reread_law_probes.proofs.Stood.Wrapped.{place_extent, call_extent, put_extent, wrapped, stands_at}
+use Rattle.reread_law_probes.proofs.Stood.Wrapped.{call_extent, wrapped, stands_at}
+use Rattle.reread_law_rows.proofs.Signed.Wrapped.{place_extent, put_extent}
 
 -- ---- what a program has nothing of
 

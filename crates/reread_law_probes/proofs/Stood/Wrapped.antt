@@ -8,10 +8,10 @@ use Rattle.decide_rules.specs.Nodes.{Node}
 use Rattle.decide_rules.specs.Nodes as nodes
 use Rattle.decide_rules.specs.Roots.{is_root}
 use Rattle.decide_rules.specs.Conditions.{is_operator}
-use Rattle.mc_probe.specs.Erase.{erase_place, erase_call}
+use Rattle.mc_probe.specs.Erase.{erase_call}
 use Rattle.mc_probe.specs.Maps.{Map}
 use Rattle.mc_probe.specs.Tree as p
-use Rattle.mc_probe.specs.Table.{Stand, Loose, InTree, operand, inner, base_of, increment_of, mapped, round_condition, round, wrap, put, put_place, put_call}
+use Rattle.mc_probe.specs.Table.{Stand, Loose, InTree, operand, inner, base_of, increment_of, mapped, round_condition, round, wrap, put_call}
 use Rattle.reread_law_rows.specs.inserted.Rows.{extent}
 use Rattle.reread_law_probes.specs.put.Places.{places, parts}
 use Rattle.reread_law_probes.proofs.Stood.Counted.{Within}
@@ -38,29 +38,8 @@ module _ {A : Type 0} (F : p.Expression → A) (through : (q : Probe) (y : p.Exp
 wrapped_extent : (m : Map) (first : ℕ) (st : Stand) (d : ℕ) (a : Node) (x : p.Expression) → extent (round m first st d a x) ≡ extent x
 wrapped_extent m first st d a x = round_is extent (λ q y. refl) m first st d a x
 
-pub place_extent : (m : Map) (first d : ℕ) (place : typed.Place) → typed.span_of_place (erase_place (put_place m first d place)) ≡ typed.span_of_place place
-place_extent m first d (typed.Local slot span) = refl
-place_extent m first d (typed.Static slot span) = refl
-place_extent m first d (typed.Parameter array stride index span) = refl
-place_extent m first d (typed.Item array n stride index span) = refl
-place_extent m first d (typed.Member structure i offset span) = refl
-
 pub call_extent : (m : Map) (first d : ℕ) (k : typed.FunctionCall) → typed.span_of_call (erase_call (put_call m first d k)) ≡ typed.span_of_call k
 call_extent m first d (typed.call f given result span) = refl
-
-pub put_extent : (m : Map) (first : ℕ) (st : Stand) (d : ℕ) (e : typed.Expression) → extent (put m first st d e) ≡ typed.span_of e
-put_extent m first st d (typed.Constant v a span) = wrapped_extent m first st d (nodes.expression (typed.Constant v a span)) (p.Constant v a span)
-put_extent m first st d (typed.Read place a) =
-    let nd = nodes.expression (typed.Read place a) in
-    wrapped_extent m first st d nd (p.Read (put_place m first (inner st d nd) place) a) ∙ place_extent m first (inner st d nd) place
-put_extent m first st d (typed.Unary operator a e span) = wrapped_extent m first st d _ _
-put_extent m first st d (typed.Convert a written e span) = wrapped_extent m first st d _ _
-put_extent m first st d (typed.Not e span) = wrapped_extent m first st d _ _
-put_extent m first st d (typed.Binary operator a e f span) = wrapped_extent m first st d _ _
-put_extent m first st d (typed.Logic operator e f span) = wrapped_extent m first st d _ _
-put_extent m first st d (typed.Choice e f g a span) = wrapped_extent m first st d _ _
-put_extent m first st d (typed.Call (typed.call f given result span) a) = wrapped_extent m first st d _ _
-put_extent m first st d (typed.Input span) = wrapped_extent m first st d _ _
 
 -- ---- its places
 

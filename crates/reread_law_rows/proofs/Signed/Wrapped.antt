@@ -177,7 +177,7 @@ wrapped w m first qs st d a inside mine l h =
 wrapped_extent : (m : Map) (first : ℕ) (st : Stand) (d : ℕ) (a : Node) (x : p.Expression) → extent (round m first st d a x) ≡ extent x
 wrapped_extent m first st d a x = ap extent (round_is m first st d a x) ∙ extent_probed (own_probes m first st d a) x
 
-place_extent : (m : Map) (first d : ℕ) (place : typed.Place) → typed.span_of_place (erase_place (put_place m first d place)) ≡ typed.span_of_place place
+pub place_extent : (m : Map) (first d : ℕ) (place : typed.Place) → typed.span_of_place (erase_place (put_place m first d place)) ≡ typed.span_of_place place
 place_extent m first d (typed.Local slot span) = refl
 place_extent m first d (typed.Static slot span) = refl
 place_extent m first d (typed.Parameter array stride index span) = refl

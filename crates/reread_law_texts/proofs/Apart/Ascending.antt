@@ -60,11 +60,11 @@ pub bytes : (c : ℕ) (ps : List Span) → From c ps → Each HasBytes ps
 bytes c [] k = tt
 bytes c (p ∷ ps) k = (k.1, bytes_chain p ps k.2)
 
-from_lower : (n m : ℕ) (ps : List Span) → n ≤ m → From m ps → From n ps
+pub from_lower : (n m : ℕ) (ps : List Span) → n ≤ m → From m ps → From n ps
 from_lower n m [] h k = tt
 from_lower n m (p ∷ ps) h k = (omega (arith, h, k.0), k.1, k.2)
 
-chain_from : (s : Span) (n : ℕ) (ps : List Span) → s.start < n → From n ps → Chain s ps
+pub chain_from : (s : Span) (n : ℕ) (ps : List Span) → s.start < n → From n ps → Chain s ps
 chain_from s n [] h k = tt
 chain_from s n (p ∷ ps) h k = (inl (omega (arith, h, k.0)), k.1, k.2)
 
@@ -176,7 +176,7 @@ node_from {c = c} a p ps k = subst (λ qs. From c qs) (sym (opened a ps)) (p.low
 node_chain : {c : ℕ} {rest : List Tok} (s : Span) (a : Expression) → Node c rest a → Sooner s (span_of a) → (ps : List Span) → From (span_of a).end ps → Chain s (spans a ps)
 node_chain s a p h ps k = subst (λ qs. Chain s qs) (sym (opened a ps)) (h, p.bytes, p.goes ps k)
 
-forward_of : (c start end : ℕ) → c ≤ start → start < end → c ≤ end
+pub forward_of : (c start end : ℕ) → c ≤ start → start < end → c ≤ end
 forward_of c start end h k = omega (arith, h, k)
 
 pub as_part : {c : ℕ} {rest : List Tok} (a : Expression) → Node c rest a → Part c (span_of a).end rest (spans a)
