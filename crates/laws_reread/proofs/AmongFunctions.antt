@@ -31,9 +31,13 @@ use Rattle.reread_law_printed.specs.parts.Parts.{body_rows}
 use Rattle.reread_law_printed.specs.parts.Stands.{past, AreInOrder, IsFunctionAmong, AreAmong}
 use Rattle.reread_law_printed.specs.ordered.Laws.{RowsAreInOrder, BlocksAreNested}
 use Rattle.laws_reread.specs.Among.{SourcesStand, TextsStand}
-use Rattle.laws_reread.proofs.Tokens.{AreClear, are_clear, sign_text, is_sign}
-use Rattle.laws_reread.proofs.Leaving.{tk, same_tokens, assoc, join, followed, cleared, stars_leave, block_leaves, item_leaves, spelled}
-use Rattle.laws_reread.proofs.Spelled.{braceless, parameters_free, rest_inside, left_inside, right_inside}
+use Rattle.laws_reread.proofs.Tokens.{AreClear, are_clear}
+use Rattle.laws_reread.proofs.Leaving.{same_tokens, assoc, join, followed, cleared, stars_leave, block_leaves, item_leaves, spelled}
+use Rattle.laws_reread.proofs.Spelled.{braceless, parameters_free}
+use Rattle.reread_law_texts.proofs.Tokens.{tk}
+use Rattle.reread_law_rows.proofs.Fitting.Sections.{sign_text}
+use Rattle.reread_law_rows.proofs.Fitting.Endings.{is_sign}
+use Rattle.reread_law_rows.proofs.Fitting.Profile.{rest_inside, left_inside, right_inside}
 
 -- ---- bytes
 

@@ -28,10 +28,11 @@ use Rattle.reread_law_printed.specs.placed.Separate.{AreSeparateAfter}
 use Rattle.reread_law_printed.specs.ordered.Laws.{BlocksAreNested}
 use Rattle.laws_reread.specs.Separate.{RowsAreSeparate}
 use Rattle.laws_reread.proofs.Ready.{le, same, Ready, ready_later, may_be_last, front, left, Goes, followed, wider}
-use Rattle.laws_reread.proofs.Labels.{left_inside, right_inside, labels_in_function}
+use Rattle.laws_reread.proofs.Labels.{labels_in_function}
 use Rattle.laws_reread.proofs.Reading.{grows, spelled, item_leaves, Here, step, Later, passed, stars_leave, block_leaves, block_laid}
 use Rattle.laws_reread.proofs.SeparateBodies.{block_forward, items}
 use Rattle.reread_law_texts.proofs.Tokens.{tk}
+use Rattle.reread_law_rows.proofs.Fitting.Profile.{left_inside, right_inside}
 
 -- ---- rows of a function that are there or not
 

@@ -1,4 +1,4 @@
-mod Fitting
+pub mod Fitting
 pub mod Signed
 mod Taken
 mod Carried

@@ -232,7 +232,7 @@ equals_mild x e = sign (codes "=") x e refl
 
 -- ---- other tokens
 
-keyword_no_sign : (k : TokenKind) → is_keyword_kind k ≡ true → is_punctuator_kind k ≡ false
+pub keyword_no_sign : (k : TokenKind) → is_keyword_kind k ≡ true → is_punctuator_kind k ≡ false
 keyword_no_sign kind.Keyword e = refl
 keyword_no_sign kind.Identifier e = refl
 keyword_no_sign kind.Punctuator e = absurd (true≢false (sym e))

@@ -28,7 +28,7 @@ signs = codes "(" ∷ codes ")" ∷ codes "[" ∷ codes "]" ∷ codes "{" ∷ co
 abbrev words : List (List ℕ)
 words = codes "if" ∷ codes "switch" ∷ codes "while" ∷ codes "for" ∷ specifiers
 
-no : (b : Bool) → (b ≡ true → ⊥) → b ≡ false
+pub no : (b : Bool) → (b ≡ true → ⊥) → b ≡ false
 no true h = absurd (h refl)
 no false h = refl
 
@@ -47,7 +47,7 @@ are_keywords : (text : List ℕ) → one_of words text ≡ true → one_of keywo
 unfolding specifiers keywords
 are_keywords text e = passes is_kept_word words text refl e
 
-abbrev is_any_punctuator : List ℕ → Bool
+abbrev pub is_any_punctuator : List ℕ → Bool
 is_any_punctuator text = one_of punctuators_and_openings text
 
 are_punctuators : (text : List ℕ) → one_of signs text ≡ true → one_of punctuators_and_openings text ≡ true
@@ -56,10 +56,10 @@ are_punctuators text e = passes is_any_punctuator signs text refl e
 
 -- ---- kinds
 
-ok_same : (a b : TokenKind) → ◌≡◌ {A = Result TokenKind FaultKind} (Ok a) (Ok b) → a ≡ b
+pub ok_same : (a b : TokenKind) → ◌≡◌ {A = Result TokenKind FaultKind} (Ok a) (Ok b) → a ≡ b
 ok_same a b e = cc
 
-sign_kind : (b : Bool) (k : TokenKind) → ◌≡◌ {A = Result TokenKind FaultKind} (if b then Err fault_kind.OutsideWord else Ok kind.Punctuator) (Ok k) → k ≡ kind.Punctuator
+pub sign_kind : (b : Bool) (k : TokenKind) → ◌≡◌ {A = Result TokenKind FaultKind} (if b then Err fault_kind.OutsideWord else Ok kind.Punctuator) (Ok k) → k ≡ kind.Punctuator
 sign_kind true k e = absurd (cc)
 sign_kind false k e = sym (ok_same kind.Punctuator k e)
 
