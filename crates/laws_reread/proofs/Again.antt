@@ -13,20 +13,20 @@ use Rattle.mc_probe.specs.Tree.{Tree}
 use Rattle.mc_probe.specs.Trees.{tree_of}
 use Rattle.mc_probe.specs.Maps.{Map}
 use Rattle.mc_probe.specs.Table.{instrumented}
-use Rattle.mc_alike.specs.Moves.{end_of, moved_tokens}
-use Rattle.mc_alike.specs.Trees.{moved_unit}
-use Rattle.mc_brackets.specs.Signs.{poured}
+use Rattle.reread_law_texts.specs.alike.Moves.{end_of, moved_tokens}
+use Rattle.reread_law_texts.specs.alike.Trees.{moved_unit}
+use Rattle.reread_law_texts.specs.brackets.Signs.{poured}
 use Rattle.mc_print.specs.Pens.{spaced}
 use Rattle.mc_print.specs.Texts.{text_of}
-use Rattle.mc_spelled.specs.Laws.{PrintedTextScans}
-use Rattle.mc_short.specs.Laws.{InstrumentedNumbersAreShort}
-use Rattle.mc_inserted.specs.Rows.{rows_of}
-use Rattle.mc_inserted.specs.Signs.{signs_of}
-use Rattle.mc_inserted.specs.Seats.{probe_rows, AreThere}
-use Rattle.mc_parts.specs.Parts.{Part, parts_of}
-use Rattle.mc_parts.specs.Marks.{marks, own_tokens}
-use Rattle.mc_parts.specs.Shaped.{tokens_at}
-use Rattle.mc_parts.specs.Laws.{EndInTime, ProbesAreThere, PlainIsPoured}
+use Rattle.reread_law_printed.specs.spelled.Laws.{PrintedTextScans}
+use Rattle.reread_law_probes.specs.short.Laws.{InstrumentedNumbersAreShort}
+use Rattle.reread_law_rows.specs.inserted.Rows.{rows_of}
+use Rattle.reread_law_rows.specs.inserted.Signs.{signs_of}
+use Rattle.reread_law_rows.specs.inserted.Seats.{probe_rows, AreThere}
+use Rattle.reread_law_printed.specs.parts.Parts.{Part, parts_of}
+use Rattle.reread_law_printed.specs.parts.Marks.{marks, own_tokens}
+use Rattle.reread_law_printed.specs.parts.Shaped.{tokens_at}
+use Rattle.reread_law_printed.specs.parts.Laws.{EndInTime, ProbesAreThere, PlainIsPoured}
 use Rattle.reread_program.specs.declared.fault.RereadFault.{RereadFault}
 use Rattle.reread_program.specs.declared.fault.RereadFault.TheVariants as fault
 use Rattle.reread_program.specs.Reading.{Reads, ReadsPieces}

@@ -20,20 +20,24 @@ use Rattle.mc_steps.specs.Points.{Points, no_points}
 use Rattle.mc_probe.specs.Maps.{Map}
 use Rattle.mc_probe.specs.Tree as p
 use Rattle.mc_probe.specs.Table.{put_function, put_functions}
-use Rattle.mc_alike.specs.Moves.{FollowFrom, end_of}
-use Rattle.mc_alike.specs.Laws.{TokensFollow}
-use Rattle.mc_inserted.specs.Rows.{Row}
-use Rattle.mc_fitting.specs.Laws.{ScannedTokensMeanTheirKinds, TextsFit}
+use Rattle.reread_law_texts.specs.alike.Moves.{FollowFrom, end_of}
+use Rattle.reread_law_texts.specs.alike.Laws.{TokensFollow}
+use Rattle.reread_law_rows.specs.inserted.Rows.{Row}
+use Rattle.reread_law_rows.specs.fitting.Laws.{ScannedTokensMeanTheirKinds, TextsFit}
 use Rattle.laws_types.specs.SourceUnits.{IsFunctionOf, AreFunctionsOf, ProgramsHaveTheirSource}
 use Rattle.laws_types.specs.SourceUnits as of
-use Rattle.mc_carried.specs.Laws.{RowsFit}
-use Rattle.mc_parts.specs.Parts.{body_rows}
-use Rattle.mc_parts.specs.Stands.{past, AreInOrder, IsFunctionAmong, AreAmong}
-use Rattle.mc_ordered.specs.Laws.{RowsAreInOrder, BlocksAreNested}
+use Rattle.reread_law_rows.specs.carried.Laws.{RowsFit}
+use Rattle.reread_law_printed.specs.parts.Parts.{body_rows}
+use Rattle.reread_law_printed.specs.parts.Stands.{past, AreInOrder, IsFunctionAmong, AreAmong}
+use Rattle.reread_law_printed.specs.ordered.Laws.{RowsAreInOrder, BlocksAreNested}
 use Rattle.laws_reread.specs.Among.{SourcesStand, TextsStand}
-use Rattle.laws_reread.proofs.Tokens.{AreClear, are_clear, sign_text, is_sign}
-use Rattle.laws_reread.proofs.Leaving.{tk, same_tokens, assoc, join, followed, cleared, stars_leave, block_leaves, item_leaves, spelled}
-use Rattle.laws_reread.proofs.Spelled.{braceless, parameters_free, rest_inside, left_inside, right_inside}
+use Rattle.laws_reread.proofs.Tokens.{AreClear, are_clear}
+use Rattle.laws_reread.proofs.Leaving.{same_tokens, assoc, join, followed, cleared, stars_leave, block_leaves, item_leaves, spelled}
+use Rattle.laws_reread.proofs.Spelled.{braceless, parameters_free}
+use Rattle.reread_law_texts.proofs.Tokens.{tk}
+use Rattle.reread_law_rows.proofs.Fitting.Sections.{sign_text}
+use Rattle.reread_law_rows.proofs.Fitting.Endings.{is_sign}
+use Rattle.reread_law_rows.proofs.Fitting.Profile.{rest_inside, left_inside, right_inside}
 
 -- ---- bytes
 

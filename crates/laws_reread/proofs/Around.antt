@@ -12,11 +12,11 @@ use Rattle.mc_probe.specs.Tree as p
 use Rattle.mc_probe.specs.Table.{Stand, operand, inner, wrap}
 use Rattle.reread_pieces.specs.declared.piece.What.{What}
 use Rattle.reread_pieces.specs.declared.piece.What.TheVariants as what
-use Rattle.mc_inserted.specs.Rows.{Row, Rows, row, row_of_probe, extent, rows}
-use Rattle.mc_placed.specs.Separate.{AreSeparateAfter}
-use Rattle.mc_signed.proofs.Split.{probed_by, openings, endings, rows_probed}
-use Rattle.mc_signed.proofs.Wrapped.{own_probes, round_is, probed_both}
-use Rattle.mc_ordered.specs.Nested.{Nested, HoldsAll, InInitializer, InInitializers, InObjects}
+use Rattle.reread_law_rows.specs.inserted.Rows.{Row, Rows, row, row_of_probe, extent, rows}
+use Rattle.reread_law_printed.specs.placed.Separate.{AreSeparateAfter}
+use Rattle.reread_law_rows.proofs.Signed.Split.{probed_by, openings, endings, rows_probed}
+use Rattle.reread_law_rows.proofs.Signed.Wrapped.{own_probes, round_is, probed_both}
+use Rattle.reread_law_printed.specs.ordered.Nested.{Nested, HoldsAll, InInitializer, InInitializers, InObjects}
 use Rattle.laws_reread.proofs.Ready.{le, same, Ready, ready_later, put, Goes, nothing, followed, wider}
 
 -- ---- expressions one after the other, in which no statement begins

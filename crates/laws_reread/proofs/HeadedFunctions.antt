@@ -10,7 +10,7 @@ use Rattle.subset_forms.specs.declared.context.Region.TheVariants as region
 use Rattle.subset_forms.specs.declared.context.Standing.TheVariants as standing
 use Rattle.mc_subset.specs.Nodes.{Node, a_declarator, has_extern, nodes_of_specifiers, nodes_of_declarator, nodes_of_parameters, nodes_of_block, nodes_of_item, nodes_of_unit}
 use Rattle.mc_subset.specs.Forms.{first_outside}
-use Rattle.mc_grammar.specs.Words.{Lexeme, is_punctuator, is_identifier_kind, lexemes_of}
+use Rattle.mc_grammar.specs.Words.{Lexeme, is_punctuator, is_identifier_kind}
 use Rattle.mc_grammar.specs.Expressions.{ReadsStars}
 use Rattle.mc_grammar.specs.Statements as g
 use Rattle.mc_grammar.specs.Items.{ReadsItem, ReadsUnit}
@@ -24,20 +24,24 @@ use Rattle.mc_probe.specs.Maps.{Map}
 use Rattle.mc_probe.specs.Tree as p
 use Rattle.mc_probe.specs.Table.{put_function, put_functions}
 use Rattle.reread_pieces.specs.Words.{is}
-use Rattle.mc_alike.specs.Moves.{FollowFrom, end_of}
-use Rattle.mc_inserted.specs.Fits.{is_bracket, IsBalanced}
+use Rattle.reread_law_texts.specs.alike.Moves.{FollowFrom, end_of}
+use Rattle.reread_law_rows.specs.inserted.Fits.{is_bracket, IsBalanced}
 use Rattle.laws_types.specs.SourceUnits.{IsFunctionOf, AreFunctionsOf, ProgramsHaveTheirSource}
 use Rattle.laws_types.specs.SourceUnits as of
-use Rattle.mc_parts.specs.Stands.{is_brace, IsFunctionAmong, AreAmong}
-use Rattle.mc_parts.specs.Closed.{AreBalanced}
-use Rattle.mc_placed.specs.Heads.{is_apart, IsHead, HaveHeads}
+use Rattle.reread_law_printed.specs.parts.Stands.{is_brace, IsFunctionAmong, AreAmong}
+use Rattle.reread_law_printed.specs.parts.Closed.{AreBalanced}
+use Rattle.reread_law_printed.specs.placed.Heads.{is_apart, IsHead, HaveHeads}
 use Rattle.laws_reread.specs.Headed.{TextsAreBalanced, TextsHaveHeads}
-use Rattle.laws_reread.proofs.Signs.{AreClear, are_clear, sign_text, left_of, is_sign, no_semicolon, free_name}
-use Rattle.laws_reread.proofs.Profile.{head_inside, rest_inside, left_inside, right_inside, no_stars}
-use Rattle.laws_reread.proofs.Said.{tk, assoc, inside, splits, cleared, append_balanced, balanced, plain}
+use Rattle.laws_reread.proofs.Signs.{AreClear, are_clear, no_semicolon, free_name}
+use Rattle.laws_reread.proofs.Profile.{no_stars}
+use Rattle.laws_reread.proofs.Said.{assoc, inside, splits, cleared, append_balanced, balanced, plain}
 use Rattle.laws_reread.proofs.HeadedBodies.{block_stretch}
 use Rattle.laws_reread.proofs.Items.{block_spells, AreExternal, no_declaration, IsDeclared, declared, declared_before, specifiers_words, plain_balanced, no_star_read, AreParameters, has_parameters}
 use Rattle.laws_reread.proofs.Unique.{same_at, same_brace, follow_later}
+use Rattle.reread_law_texts.proofs.Tokens.{tk, same_tokens}
+use Rattle.reread_law_rows.proofs.Fitting.Sections.{sign_text, left_of}
+use Rattle.reread_law_rows.proofs.Fitting.Endings.{is_sign}
+use Rattle.reread_law_rows.proofs.Fitting.Profile.{head_inside, rest_inside, left_inside, right_inside}
 
 -- ---- a function
 
@@ -273,10 +277,6 @@ heads (f ∷ fs) ts at follow c q =
     )
 
 -- ---- texts
-
-same_tokens : (tokens : List Tok) → tk (lexemes_of tokens) ≡ tokens
-same_tokens [] = refl
-same_tokens (x ∷ tokens) = ap (λ us. x ∷ us) (same_tokens tokens)
 
 text_cuts : (m : Map) {d : Dialect} (tokens : List Tok) (unit : List Item) (program : typed.Program) → AreClear tokens → i.IsTree d tokens unit
     → first_outside (nodes_of_unit unit) ≡ None → AreFunctionsOf unit program.functions → Cuts (put_functions m 0 0 no_points program.functions) tokens

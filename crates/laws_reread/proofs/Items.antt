@@ -21,16 +21,20 @@ use Rattle.mc_grammar.specs.Spelling as spelling
 use Rattle.mc_grammar.proofs.Spelling.{specifiers_spell, declarator_spells, parameter_spells, initializer_spells, declaration_spells, statement_spells}
 use Rattle.mc_grammar.proofs.Storage.{local_typedef}
 use Rattle.reread_pieces.specs.Words.{is}
-use Rattle.mc_inserted.specs.Fits.{IsBalanced, first_is, last_is}
-use Rattle.mc_inserted.specs.Fits as fit
-use Rattle.mc_parts.specs.Stands.{is_brace}
-use Rattle.mc_placed.specs.Heads.{has_body, is_apart}
-use Rattle.laws_reread.proofs.Signs.{AreClear, brackets, no_bracket, is_sign, sign_text, are_pair, neither}
+use Rattle.reread_law_rows.specs.inserted.Fits.{IsBalanced, first_is, last_is}
+use Rattle.reread_law_rows.specs.inserted.Fits as fit
+use Rattle.reread_law_printed.specs.parts.Stands.{is_brace}
+use Rattle.reread_law_printed.specs.placed.Heads.{has_body, is_apart}
+use Rattle.laws_reread.proofs.Signs.{AreClear, brackets, no_bracket, are_pair}
 use Rattle.laws_reread.proofs.Stretch.{Stretch, empty, free, join, no_braces, no_body}
-use Rattle.laws_reread.proofs.Said.{tk, assoc, inside, splits, AreWords, append_balanced, balanced, braceless, first_or_later, holds_none}
-use Rattle.laws_reread.proofs.Profile.{head_inside, rest_inside, left_inside, right_inside, no_structure, no_enumeration}
+use Rattle.laws_reread.proofs.Said.{assoc, inside, splits, AreWords, append_balanced, balanced, braceless, first_or_later, holds_none}
 use Rattle.laws_reread.proofs.Trees.{anywhere, specifiers_stretch, list_stretch}
 use Rattle.laws_reread.proofs.HeadedBodies.{inits_stretch}
+use Rattle.reread_law_texts.proofs.Tokens.{tk}
+use Rattle.reread_law_rows.proofs.Fitting.Sections.{sign_text}
+use Rattle.reread_law_rows.proofs.Fitting.Words.{neither}
+use Rattle.reread_law_rows.proofs.Fitting.Endings.{is_sign}
+use Rattle.reread_law_rows.proofs.Fitting.Profile.{head_inside, rest_inside, left_inside, right_inside, no_structure, no_enumeration}
 
 -- ---- what is read is what is spelled
 

@@ -1,5 +1,5 @@
 -- Where labels stand in a text of the profile: directly in the body of a `switch` (C17 6.8.1).
-use Rattle.std.proofs.Common.{◌≡◌, Bool, true, false, List, [], ◌∷◌, ◌++◌, Option, Some, None, refl, ap, ◌∙◌}
+use Rattle.std.proofs.Common.{◌≡◌, Bool, true, false, List, ◌++◌, None, refl}
 use Rattle.mc_span.specs.declared.span.Span.{Span}
 use Rattle.mc_tree.specs.Tree.{Expression, Statement, BlockItems}
 use Rattle.mc_tree.specs.Tree as tree
@@ -7,12 +7,10 @@ use Rattle.subset_forms.specs.declared.context.Region.TheVariants as region
 use Rattle.subset_forms.specs.declared.context.Role.TheVariants as role
 use Rattle.subset_forms.specs.declared.context.Standing.{Standing}
 use Rattle.subset_forms.specs.declared.context.Standing.TheVariants as standing
-use Rattle.subset_forms.specs.declared.form.Form.{Form}
-use Rattle.subset_forms.specs.declared.outside.Outside.{Outside}
 use Rattle.subset_forms.specs.Contexts.{standing_of_items, standing_of_label}
-use Rattle.subset_forms.specs.Order.{or_else}
 use Rattle.mc_subset.specs.Nodes.{Node, a_statement, has_extern, nodes_of_expression, nodes_of_specifiers, nodes_of_declarator, nodes_of_declaration, nodes_of_parts, standing_from, nodes_of_statement, nodes_of_block, nodes_of_item}
-use Rattle.mc_subset.specs.Forms.{form_of, place_of, outside_at, first_outside}
+use Rattle.mc_subset.specs.Forms.{form_of, first_outside}
+use Rattle.reread_law_rows.proofs.Fitting.Profile.{head_inside, rest_inside, left_inside, right_inside}
 
 -- Labels stand inside a counted statement, as `b` says of the place of this one.
 abbrev mutual
@@ -38,36 +36,6 @@ abbrev mutual
   HaveLabels b tree.no_block_items = Unit {0}
   HaveLabels b (tree.local d rest) = HaveLabels b rest
   HaveLabels b (tree.statement s rest) = HasLabels b s × HaveLabels b rest
-
--- ---- lists of nodes
-
-none_first : (a b : Option Outside) → or_else a b ≡ None → a ≡ None
-none_first None b h = refl
-none_first (Some x) b h = absurd (cc)
-
-none_later : (a b : Option Outside) → or_else a b ≡ None → b ≡ None
-none_later None b h = h
-none_later (Some x) b h = absurd (cc)
-
-no_form : (o : Option Form) (p : Span) → outside_at o p ≡ None → o ≡ None
-no_form None p h = refl
-no_form (Some f) p h = absurd (cc)
-
-head_inside : (n : Node) (rest : List Node) → first_outside (n ∷ rest) ≡ None → form_of n ≡ None
-head_inside n rest h = no_form (form_of n) (place_of n) (none_first (outside_at (form_of n) (place_of n)) (first_outside rest) h)
-
-rest_inside : (n : Node) (rest : List Node) → first_outside (n ∷ rest) ≡ None → first_outside rest ≡ None
-rest_inside n rest h = none_later (outside_at (form_of n) (place_of n)) (first_outside rest) h
-
-pub left_inside : (xs ys : List Node) → first_outside (xs ++ ys) ≡ None → first_outside xs ≡ None
-left_inside [] ys h = refl
-left_inside (n ∷ xs) ys h =
-    let a = outside_at (form_of n) (place_of n) in
-    ap (λ o. or_else o (first_outside xs)) (none_first a (first_outside (xs ++ ys)) h) ∙ left_inside xs ys (none_later a (first_outside (xs ++ ys)) h)
-
-pub right_inside : (xs ys : List Node) → first_outside (xs ++ ys) ≡ None → first_outside ys ≡ None
-right_inside [] ys h = h
-right_inside (n ∷ xs) ys h = right_inside xs ys (none_later (outside_at (form_of n) (place_of n)) (first_outside (xs ++ ys)) h)
 
 -- ---- the bodies of `switch` statements
 

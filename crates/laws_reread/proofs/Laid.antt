@@ -10,8 +10,8 @@ use Rattle.mc_typed.specs.Tree as typed
 use Rattle.mc_steps.specs.Points.{initializes}
 use Rattle.laws_types.specs.SourceUnits.{AreObjectsOf}
 use Rattle.laws_types.specs.SourceUnits as of
-use Rattle.mc_ordered.specs.Nested.{InInitializer, InInitializers, InObjects}
-use Rattle.mc_placed.specs.Separate.{HasTwoBefore}
+use Rattle.reread_law_printed.specs.ordered.Nested.{InInitializer, InInitializers, InObjects}
+use Rattle.reread_law_printed.specs.placed.Separate.{HasTwoBefore}
 
 -- ---- initializers
 

@@ -1,11 +1,10 @@
 -- The tokens that are left of a text are the last of those that were given.
-use Rattle.std.proofs.Common.{◌≡◌, ℕ, Bool, true, false, ◌&&◌, List, [], ◌∷◌, ◌++◌, map, if◌then◌else◌, refl, sym, ap, subst, ◌∙◌}
-use Rattle.std.specs.Str.{bytes_eq}
+use Rattle.std.proofs.Common.{◌≡◌, ℕ, List, [], ◌∷◌, ◌++◌, refl, sym, ap, subst, ◌∙◌}
 use Rattle.mc_span.specs.declared.span.Span.{Span}
 use Rattle.mc_lex.specs.declared.token.Dialect.{Dialect}
 use Rattle.mc_lex.specs.Tokens.{Tok}
 use Rattle.mc_tree.specs.Tree.{BlockItems, Item}
-use Rattle.mc_grammar.specs.Words.{Lexeme, is_identifier_kind, retag, lexemes_of}
+use Rattle.mc_grammar.specs.Words.{Lexeme, lexemes_of}
 use Rattle.mc_grammar.specs.Expressions.{ReadsStars}
 use Rattle.mc_grammar.specs.Expressions as r
 use Rattle.mc_grammar.specs.Statements.{ReadsBlockItems}
@@ -15,11 +14,9 @@ use Rattle.mc_grammar.specs.Spelling.{Spelled, Spells}
 use Rattle.mc_grammar.specs.Spelling as spelling
 use Rattle.mc_grammar.proofs.Storage.{local_typedef}
 use Rattle.mc_grammar.proofs.Spelling.{declaration_spells, statement_spells, item_spells}
-use Rattle.mc_alike.specs.Moves.{FollowFrom}
+use Rattle.reread_law_texts.specs.alike.Moves.{FollowFrom}
 use Rattle.laws_reread.proofs.Tokens.{AreClear}
-
-abbrev pub tk : List Lexeme → List Tok
-tk ts = map (λ x. x.token) ts
+use Rattle.reread_law_texts.proofs.Tokens.{tk, retag_tokens}
 
 pub same_tokens : (tokens : List Tok) → tokens ≡ tk (lexemes_of tokens)
 same_tokens [] = refl
@@ -59,21 +56,6 @@ clear_later (x ∷ front) rest h = clear_later front rest h.1
 
 pub cleared : {from rest : List Tok} (p : Leaves from rest) → AreClear from → AreClear rest
 cleared {rest = rest} p h = clear_later p.inside rest (subst (λ us. AreClear us) p.all h)
-
--- ---- typedef names
-
-abbrev marked : Bool → Lexeme → Lexeme
-marked b x = if b then record { token = x.token; names_type = true } else x
-
-same_token : (b : Bool) (x : Lexeme) → (marked b x).token ≡ x.token
-same_token true x = refl
-same_token false x = refl
-
-pub retag_tokens : (name : List ℕ) (ts : List Lexeme) → tk (retag name ts) ≡ tk ts
-unfolding retag
-retag_tokens name [] = refl
-retag_tokens name (x ∷ ts) =
-    ap (λ y. y ∷ tk (retag name ts)) (same_token (is_identifier_kind x.token.kind && bytes_eq x.token.text name) x) ∙ ap (λ us. x.token ∷ us) (retag_tokens name ts)
 
 -- ---- what is read
 

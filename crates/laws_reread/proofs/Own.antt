@@ -8,15 +8,15 @@ use Rattle.mc_lex.specs.Words.{one_of}
 use Rattle.reread_pieces.specs.declared.piece.What.{What}
 use Rattle.reread_pieces.specs.declared.piece.What.TheVariants as what
 use Rattle.reread_pieces.specs.Pieces.{Mark}
-use Rattle.mc_alike.specs.Moves.{FollowFrom, end_of}
+use Rattle.reread_law_texts.specs.alike.Moves.{FollowFrom, end_of}
 use Rattle.mc_print.specs.Insertions.{value_exit}
 use Rattle.mc_print.specs.Pens.{spaced, gap_after}
 use Rattle.mc_print.specs.Texts.{text_of}
-use Rattle.mc_inserted.specs.Rows.{Row}
-use Rattle.mc_parts.specs.Parts.{Part, own, row_part, row_texts, words_of, parts_of}
-use Rattle.mc_parts.specs.Marks.{after, mark_of, marks_from, marks, own_tokens}
-use Rattle.mc_parts.specs.Laws.{WordsOfParts}
-use Rattle.mc_parts.proofs.Trace.{IsOwn, source, opens, closes, At, Trace, ends, copy, row, word, semicolon, traced}
+use Rattle.reread_law_rows.specs.inserted.Rows.{Row}
+use Rattle.reread_law_printed.specs.parts.Parts.{Part, own, row_part, row_texts, words_of, parts_of}
+use Rattle.reread_law_printed.specs.parts.Marks.{after, mark_of, marks_from, marks, own_tokens}
+use Rattle.reread_law_printed.specs.parts.Laws.{WordsOfParts}
+use Rattle.reread_law_printed.proofs.Parts.Trace.{IsOwn, source, opens, closes, At, Trace, ends, copy, row, word, semicolon, traced}
 use Rattle.laws_reread.specs.Laws.{OwnTokensFollow, OwnTokensEnd}
 
 -- ---- where texts end

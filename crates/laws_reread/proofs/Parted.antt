@@ -5,14 +5,14 @@ use Rattle.mc_lex.specs.Tokens.{Tok}
 use Rattle.mc_lex.specs.Scans.{Scans}
 use Rattle.mc_probe.specs.Tree.{Tree}
 use Rattle.mc_probe.specs.Table.{instrumented}
-use Rattle.mc_short.specs.Laws.{InstrumentedNumbersAreShort}
-use Rattle.mc_fitting.specs.Laws.{ScannedTokensMeanTheirKinds}
-use Rattle.mc_inserted.specs.Rows.{rows_of}
-use Rattle.mc_parts.specs.Closed.{AreBalanced}
-use Rattle.mc_parts.specs.Laws.{Stands, PiecesOfParts}
-use Rattle.mc_placed.specs.Heads.{HaveHeads}
-use Rattle.mc_placed.specs.Separate.{AreSeparate}
-use Rattle.mc_placed.specs.Laws.{AreInPlace, KindsStay, SourcesHaveOwnWords, FunctionsHaveEntries, PartsArePlaced, PartsComeAfter, PartsAreFollowed, PartsAreInside, ValuesAreTyped}
+use Rattle.reread_law_probes.specs.short.Laws.{InstrumentedNumbersAreShort}
+use Rattle.reread_law_rows.specs.fitting.Laws.{ScannedTokensMeanTheirKinds}
+use Rattle.reread_law_rows.specs.inserted.Rows.{rows_of}
+use Rattle.reread_law_printed.specs.parts.Closed.{AreBalanced}
+use Rattle.reread_law_printed.specs.parts.Laws.{Stands, PiecesOfParts}
+use Rattle.reread_law_printed.specs.placed.Heads.{HaveHeads}
+use Rattle.reread_law_printed.specs.placed.Separate.{AreSeparate}
+use Rattle.reread_law_printed.specs.placed.Laws.{AreInPlace, KindsStay, SourcesHaveOwnWords, FunctionsHaveEntries, PartsArePlaced, PartsComeAfter, PartsAreFollowed, PartsAreInside, ValuesAreTyped}
 use Rattle.laws_reread.specs.Headed.{SourcesHaveNumerals, SourcesKeepKinds, TextsAreBalanced, TextsHaveHeads}
 use Rattle.laws_reread.specs.Separate.{RowsAreSeparate}
 use Rattle.laws_reread.specs.Among.{SourcesStand}

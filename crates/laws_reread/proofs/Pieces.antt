@@ -21,26 +21,26 @@ use Rattle.types_rules.specs.Typing.{IsTypingOf}
 use Rattle.laws_soundness.specs.Laws.{UnitsAreSound, UnitsAreFew}
 use Rattle.mc_probe.specs.Maps.{Map, IsMapOf}
 use Rattle.mc_probe.specs.Table.{instrumented}
-use Rattle.mc_alike.specs.Moves.{FollowFrom}
-use Rattle.mc_weave.specs.Brackets.{Brackets}
-use Rattle.mc_weave.specs.Trees.{bracketed_unit}
-use Rattle.mc_weave.specs.Laws.{HeightIsWithin}
-use Rattle.mc_brackets.specs.Signs.{poured, signs_in_unit}
-use Rattle.mc_brackets.specs.Laws.{PouredTextsHaveBracketedTrees}
-use Rattle.mc_unwoven.specs.Laws.{TreesComeBack}
-use Rattle.mc_inserted.specs.Rows.{Row, rows_of}
-use Rattle.mc_inserted.specs.Signs.{brackets_of, signs_of}
-use Rattle.mc_inserted.specs.Seats.{ArePlaced, probe_rows, AreThere}
-use Rattle.mc_apart.specs.Distinct.{IsDistinct}
-use Rattle.mc_apart.specs.Places.{spans_in_unit}
-use Rattle.mc_apart.specs.Laws.{ExpressionsAreApart, BracketsStartBefore, PlacesHaveBytes}
-use Rattle.mc_signed.specs.Laws.{SignsAreThoseOfTheTree, BracketsAreFew, BracketsAreAfterTokens}
-use Rattle.mc_taken.specs.Laws.{AreTaken, ProbesAreTaken, LocalsAreApart}
+use Rattle.reread_law_texts.specs.alike.Moves.{FollowFrom}
+use Rattle.reread_law_texts.specs.weave.Brackets.{Brackets}
+use Rattle.reread_law_texts.specs.weave.Trees.{bracketed_unit}
+use Rattle.reread_law_texts.specs.weave.Laws.{HeightIsWithin}
+use Rattle.reread_law_texts.specs.brackets.Signs.{poured, signs_in_unit}
+use Rattle.reread_law_texts.specs.brackets.Laws.{PouredTextsHaveBracketedTrees}
+use Rattle.reread_law_texts.specs.unwoven.Laws.{TreesComeBack}
+use Rattle.reread_law_rows.specs.inserted.Rows.{Row, rows_of}
+use Rattle.reread_law_rows.specs.inserted.Signs.{brackets_of, signs_of}
+use Rattle.reread_law_rows.specs.inserted.Seats.{ArePlaced, probe_rows, AreThere}
+use Rattle.reread_law_texts.specs.apart.Distinct.{IsDistinct}
+use Rattle.reread_law_texts.specs.apart.Places.{spans_in_unit}
+use Rattle.reread_law_texts.specs.apart.Laws.{ExpressionsAreApart, BracketsStartBefore, PlacesHaveBytes}
+use Rattle.reread_law_rows.specs.signed.Laws.{SignsAreThoseOfTheTree, BracketsAreFew, BracketsAreAfterTokens}
+use Rattle.reread_law_rows.specs.taken.Laws.{AreTaken, ProbesAreTaken, LocalsAreApart}
 use Rattle.reread_put_back.specs.Back.{put_back}
-use Rattle.mc_put.specs.Laws.{TablesArePutBack}
-use Rattle.mc_stood.specs.Laws.{StandsAreApart, ProgramsStandApart}
-use Rattle.mc_counted.specs.Laws.{InstrumentedUnitsAreCounted}
-use Rattle.mc_converted.specs.Laws.{ImpliedConversionsStand}
+use Rattle.reread_law_probes.specs.put.Laws.{TablesArePutBack}
+use Rattle.reread_law_probes.specs.stood.Laws.{StandsAreApart, ProgramsStandApart}
+use Rattle.reread_law_probes.specs.counted.Laws.{InstrumentedUnitsAreCounted}
+use Rattle.reread_law_probes.specs.converted.Laws.{ImpliedConversionsStand}
 use Rattle.reread_program.specs.Reading.{ReadsUnit}
 use Rattle.laws_reread.specs.Laws.{PiecesAreRead}
 

@@ -16,19 +16,19 @@ use Rattle.types_rules.specs.Typing.{IsTypingOf}
 use Rattle.mc_probe.specs.Tree.{Tree}
 use Rattle.mc_probe.specs.Maps.{Map, IsMapOf}
 use Rattle.mc_probe.specs.Table.{instrumented}
-use Rattle.mc_alike.specs.Moves.{Move, AllFit, FollowFrom, between, end_of, moved_tokens}
-use Rattle.mc_alike.specs.Trees.{moved_unit}
-use Rattle.mc_alike.specs.Laws.{TreeMoves, AlikeTokensAreMoved, HeightIsKept, RefusalIsKept}
-use Rattle.mc_natural.specs.Settled.{settled}
-use Rattle.mc_natural.specs.Laws.{ProgramsMove}
+use Rattle.reread_law_texts.specs.alike.Moves.{Move, AllFit, FollowFrom, between, end_of, moved_tokens}
+use Rattle.reread_law_texts.specs.alike.Trees.{moved_unit}
+use Rattle.reread_law_texts.specs.alike.Laws.{TreeMoves, AlikeTokensAreMoved, HeightIsKept, RefusalIsKept}
+use Rattle.reread_law_places.specs.natural.Settled.{settled}
+use Rattle.reread_law_places.specs.natural.Laws.{ProgramsMove}
 use Rattle.laws_simulation.specs.Laws.{InstrumentedErases}
 use Rattle.mc_print.specs.Pens.{spaced}
 use Rattle.mc_print.specs.Texts.{text_of}
-use Rattle.mc_fitting.specs.Laws.{MeanTheirKinds, ScannedTokensMeanTheirKinds}
-use Rattle.mc_parts.specs.Parts.{parts_of}
-use Rattle.mc_parts.specs.Marks.{marks, own_tokens}
-use Rattle.mc_parts.specs.Laws.{Stands, OwnTokensAreAlike, PartsMove}
-use Rattle.mc_shifted.specs.Laws.{RowsAreMoved}
+use Rattle.reread_law_rows.specs.fitting.Laws.{MeanTheirKinds, ScannedTokensMeanTheirKinds}
+use Rattle.reread_law_printed.specs.parts.Parts.{parts_of}
+use Rattle.reread_law_printed.specs.parts.Marks.{marks, own_tokens}
+use Rattle.reread_law_printed.specs.parts.Laws.{Stands, OwnTokensAreAlike, PartsMove}
+use Rattle.reread_law_printed.specs.shifted.Laws.{RowsAreMoved}
 use Rattle.laws_reread.specs.Among.{TextsStand, SourcesStand}
 use Rattle.laws_reread.specs.Laws.{OwnTokensFollow, OwnTokensEnd, IsAsPrinted}
 

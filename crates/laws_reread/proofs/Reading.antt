@@ -1,12 +1,12 @@
 -- In a text the parts of statements begin where they should: one case for each alternative of a
 -- production.
-use Rattle.std.proofs.Common.{◌≡◌, ◌≤◌, ◌<◌, ◌+◌, ℕ, Bool, true, false, ◌&&◌, List, [], ◌∷◌, ◌++◌, length, Option, if◌then◌else◌, codes, refl, sym, ap, subst, ◌∙◌, true≢false, arith}
+use Rattle.std.proofs.Common.{◌≡◌, ◌≤◌, ◌<◌, ◌+◌, ℕ, Bool, true, false, ◌&&◌, List, [], ◌∷◌, ◌++◌, length, Option, codes, refl, sym, ap, subst, ◌∙◌, true≢false, arith}
 use Rattle.std.specs.Str.{bytes_eq}
 use Rattle.mc_span.specs.declared.span.Span.{Span}
 use Rattle.mc_lex.specs.declared.token.Dialect.{Dialect}
 use Rattle.mc_lex.specs.Tokens.{Tok}
-use Rattle.mc_tree.specs.Tree.{Expression, Initializer, Initializers, Declarator, InitDeclarator, Declaration, Specifiers, Statement, BlockItems, Item, name_of, span_of_statement}
-use Rattle.mc_grammar.specs.Words.{Lexeme, is_punctuator, is_punctuator_kind, is_identifier_kind, begins_specifiers, retag}
+use Rattle.mc_tree.specs.Tree.{Expression, Initializer, Initializers, InitDeclarator, Declaration, Specifiers, Statement, BlockItems, Item, span_of_statement}
+use Rattle.mc_grammar.specs.Words.{Lexeme, is_punctuator, is_punctuator_kind, begins_specifiers}
 use Rattle.mc_grammar.specs.Expressions.{ReadsStars}
 use Rattle.mc_grammar.specs.Expressions as r
 use Rattle.mc_grammar.specs.Statements.{ReadsOptional, ReadsTest, ReadsInitializer, ReadsInitializers, ReadsInitDeclarator, ReadsInitDeclarators, ReadsDeclaration, ReadsStatement, ReadsCompound, ReadsBlockItems, after}
@@ -16,13 +16,13 @@ use Rattle.mc_grammar.specs.Spelling.{Spelled, Spells}
 use Rattle.mc_grammar.specs.Spelling as spelling
 use Rattle.mc_grammar.proofs.Spelling.{spells, specifiers_spell, declarator_spells, declaration_spells, start_spells, statement_spells, item_spells}
 use Rattle.mc_grammar.proofs.Storage.{local_typedef}
-use Rattle.mc_weave.proofs.Next.{of_sign}
-use Rattle.mc_alike.specs.Moves.{FollowFrom, end_of}
-use Rattle.mc_apart.proofs.Ascending.{tk}
-use Rattle.mc_apart.proofs.ApartExpressions.{apart}
-use Rattle.mc_placed.specs.Separate.{HasTwoBefore}
+use Rattle.reread_law_texts.proofs.Weave.Next.{of_sign}
+use Rattle.reread_law_texts.specs.alike.Moves.{FollowFrom, end_of}
+use Rattle.reread_law_texts.proofs.Apart.ApartExpressions.{apart}
+use Rattle.reread_law_printed.specs.placed.Separate.{HasTwoBefore}
 use Rattle.laws_reread.proofs.Ready.{le, less, same}
 use Rattle.laws_reread.proofs.Laid.{FirstFrom, FirstOf, IsFar, AreFar, IsFarIn, IsLaid, AreLaid}
+use Rattle.reread_law_texts.proofs.Tokens.{tk, retag_tokens, after_tokens}
 
 -- ---- bytes
 
@@ -57,23 +57,6 @@ all_left = record { inside = []; all = refl }
 
 one_left : (x : Tok) {ts rest : List Tok} → Leaves ts rest → Leaves (x ∷ ts) rest
 one_left x p = record { inside = x ∷ p.inside; all = ap (λ us. x ∷ us) p.all }
-
-abbrev marked : Bool → Lexeme → Lexeme
-marked b x = if b then record { token = x.token; names_type = true } else x
-
-same_token : (b : Bool) (x : Lexeme) → (marked b x).token ≡ x.token
-same_token true x = refl
-same_token false x = refl
-
-retag_tokens : (name : List ℕ) (ts : List Lexeme) → tk (retag name ts) ≡ tk ts
-unfolding retag
-retag_tokens name [] = refl
-retag_tokens name (x ∷ ts) =
-    ap (λ y. y ∷ tk (retag name ts)) (same_token (is_identifier_kind x.token.kind && bytes_eq x.token.text name) x) ∙ ap (λ us. x.token ∷ us) (retag_tokens name ts)
-
-after_tokens : (typedef : Bool) (d : Declarator) (ts : List Lexeme) → tk (after typedef d ts) ≡ tk ts
-after_tokens true d ts = retag_tokens (name_of d).text ts
-after_tokens false d ts = refl
 
 pub spelled : {all : List Spelled} {ts rest : List Lexeme} → Spells all ts rest → Leaves (tk ts) (tk rest)
 spelled spelling.nothing = all_left

@@ -7,10 +7,10 @@ use Rattle.mc_probe.specs.Maps.{Map}
 use Rattle.mc_probe.specs.Table.{At, mark_unless_default}
 use Rattle.reread_pieces.specs.declared.piece.What.{What}
 use Rattle.reread_pieces.specs.declared.piece.What.TheVariants as what
-use Rattle.mc_inserted.specs.Rows.{Row, Rows, row, absent_default}
-use Rattle.mc_parts.specs.Parts.{place_by}
-use Rattle.mc_parts.specs.Stands.{past_by}
-use Rattle.mc_placed.specs.Separate.{IsLater, IsBeforeLabel, ComesAfter, HasTwoBefore, ComesBefore, AreSeparateAfter}
+use Rattle.reread_law_rows.specs.inserted.Rows.{Row, Rows, row, absent_default}
+use Rattle.reread_law_printed.specs.parts.Parts.{place_by}
+use Rattle.reread_law_printed.specs.parts.Stands.{past_by}
+use Rattle.reread_law_printed.specs.placed.Separate.{IsLater, IsBeforeLabel, ComesAfter, HasTwoBefore, ComesBefore, AreSeparateAfter}
 
 pub le : {a b c : ℕ} → a ≤ b → b ≤ c → a ≤ c
 le h l = omega (arith, h, l)

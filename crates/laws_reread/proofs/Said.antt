@@ -1,5 +1,5 @@
 -- The tokens of what is spelled.
-use Rattle.std.proofs.Common.{◌≡◌, ℕ, Bool, true, false, not, ◌&&◌, ◌||◌, List, [], ◌∷◌, ◌++◌, map, if◌then◌else◌, refl, sym, ap, subst, ◌∙◌, codes, true≢false}
+use Rattle.std.proofs.Common.{◌≡◌, ℕ, Bool, true, false, not, ◌&&◌, ◌||◌, List, [], ◌∷◌, ◌++◌, refl, sym, ap, subst, ◌∙◌, codes, true≢false}
 use Rattle.std.specs.List.{list_all, list_any}
 use Rattle.std.specs.Str.{bytes_eq}
 use Rattle.mc_lex.specs.Tokens.{Tok}
@@ -8,34 +8,21 @@ use Rattle.mc_grammar.specs.Words.{Lexeme, is_identifier_kind, is_punctuator, re
 use Rattle.mc_grammar.specs.Spelling.{Spelled, IsSpelled, Spells, Punctuator, Keyword, Identifier, TypedefName, Tag, Constant, Character, Typedef}
 use Rattle.mc_grammar.specs.Spelling as spelling
 use Rattle.reread_pieces.specs.Words.{is}
-use Rattle.mc_inserted.specs.Fits.{is_bracket, IsBalanced, first_is}
-use Rattle.mc_inserted.specs.Fits as fit
-use Rattle.mc_parts.specs.Stands.{is_brace}
-use Rattle.mc_placed.specs.Heads.{has_body, is_apart}
-use Rattle.laws_reread.proofs.Signs.{Clear, AreClear, brackets, signs, belong, no_bracket, no_sign, none_of, keyword_kind, identifier_no_sign, left_of, sign_text, are_pair, neither}
+use Rattle.reread_law_rows.specs.inserted.Fits.{is_bracket, IsBalanced, first_is}
+use Rattle.reread_law_rows.specs.inserted.Fits as fit
+use Rattle.reread_law_printed.specs.parts.Stands.{is_brace}
+use Rattle.reread_law_printed.specs.placed.Heads.{has_body, is_apart}
+use Rattle.laws_reread.proofs.Signs.{Clear, AreClear, brackets, signs, belong, no_bracket, no_sign, none_of, are_pair}
 use Rattle.laws_reread.proofs.Stretch.{IsFree, begins_brace, Stretch, empty, free, round, square, curly, NoBrace, NoBraces, is_close, holds_body}
-
-abbrev pub tk : List Lexeme → List Tok
-tk ts = map (λ x. x.token) ts
+use Rattle.reread_law_texts.proofs.Tokens.{tk, retag_tokens}
+use Rattle.reread_law_rows.proofs.Fitting.Sections.{keyword_kind, identifier_no_sign, left_of, sign_text}
+use Rattle.reread_law_rows.proofs.Fitting.Words.{neither}
 
 pub assoc : (a b c : List Tok) → (a ++ b) ++ c ≡ a ++ (b ++ c)
 assoc [] b c = refl
 assoc (x ∷ a) b c = ap (λ us. x ∷ us) (assoc a b c)
 
 -- ---- typedef names
-
-abbrev marked : Bool → Lexeme → Lexeme
-marked b x = if b then record { token = x.token; names_type = true } else x
-
-same_token : (b : Bool) (x : Lexeme) → (marked b x).token ≡ x.token
-same_token true x = refl
-same_token false x = refl
-
-pub retag_tokens : (name : List ℕ) (ts : List Lexeme) → tk (retag name ts) ≡ tk ts
-unfolding retag
-retag_tokens name [] = refl
-retag_tokens name (x ∷ ts) =
-    ap (λ y. y ∷ tk (retag name ts)) (same_token (is_identifier_kind x.token.kind && bytes_eq x.token.text name) x) ∙ ap (λ us. x.token ∷ us) (retag_tokens name ts)
 
 retag_clear : (name : List ℕ) (ts : List Lexeme) → AreClear (tk ts) → AreClear (tk (retag name ts))
 retag_clear name ts k = subst (λ us. AreClear us) (sym (retag_tokens name ts)) k

@@ -15,12 +15,12 @@ use Rattle.mc_steps.specs.Points.{initializes, has_default}
 use Rattle.mc_probe.specs.Maps.{Map}
 use Rattle.mc_probe.specs.Table.{Loose, At, past, put_effects, put_initializer, put_initializers, put_initial, put_declarators, put_start, put_optional, put_statement, put_statements}
 use Rattle.reread_pieces.specs.declared.piece.What.TheVariants as what
-use Rattle.mc_inserted.specs.Rows.{Row, Rows, counted_declaration, rows_in_effects, rows_in_initializer, rows_in_initializers, rows_in_initial, rows_in_declarators, rows_in_start, rows_in_optional, rows_in_statement, rows_in_statements}
+use Rattle.reread_law_rows.specs.inserted.Rows.{Row, Rows, counted_declaration, rows_in_effects, rows_in_initializer, rows_in_initializers, rows_in_initial, rows_in_declarators, rows_in_start, rows_in_optional, rows_in_statement, rows_in_statements}
 use Rattle.laws_types.specs.SourceUnits.{IsInitializerOf, AreInitializersOf, AreObjectsOf, AreDeclaredBy, AreClausesOf, ArePartOf, IsStartOf, IsTestOf, AreStatementsOf, AreItemsOf, joined, span_of_declaration}
 use Rattle.laws_types.specs.SourceUnits as of
-use Rattle.mc_signed.proofs.Bodies.{bare_rows}
-use Rattle.mc_placed.specs.Separate.{AreSeparateAfter}
-use Rattle.mc_ordered.specs.Nested.{HoldsAll, InOptional, InInitializer, InInitializers, InObjects, InDeclaration, InStart, NestedStatement, InBlock}
+use Rattle.reread_law_rows.proofs.Signed.Bodies.{bare_rows}
+use Rattle.reread_law_printed.specs.placed.Separate.{AreSeparateAfter}
+use Rattle.reread_law_printed.specs.ordered.Nested.{HoldsAll, InOptional, InInitializer, InInitializers, InObjects, InDeclaration, InStart, NestedStatement, InBlock}
 use Rattle.laws_reread.proofs.Ready.{le, same, put, is_later, Goes, nothing, followed, wider, braced, braced_switch, labelled, returned, valued}
 use Rattle.laws_reread.proofs.Around.{silent, next, wide, forward, initializer_forward, objects_forward}
 use Rattle.laws_reread.proofs.Values.{number, operand, structure, effect}

@@ -18,20 +18,21 @@ use Rattle.mc_probe.specs.Tree as p
 use Rattle.mc_probe.specs.Table.{put_function, put_functions}
 use Rattle.reread_pieces.specs.declared.piece.What.{What}
 use Rattle.reread_pieces.specs.declared.piece.What.TheVariants as what
-use Rattle.mc_alike.specs.Moves.{FollowFrom, end_of}
-use Rattle.mc_apart.proofs.Ascending.{tk}
-use Rattle.mc_inserted.specs.Rows.{Rows, exit_row, rows_in_function, rows_in_functions}
+use Rattle.reread_law_texts.specs.alike.Moves.{FollowFrom, end_of}
+use Rattle.reread_law_rows.specs.inserted.Rows.{Rows, exit_row, rows_in_function, rows_in_functions}
 use Rattle.mc_grammar.proofs.Spelling.{specifiers_spell, parameters_spell}
 use Rattle.mc_grammar.specs.Spelling as spelling
 use Rattle.laws_types.specs.SourceUnits.{IsFunctionOf, AreFunctionsOf, ProgramsHaveTheirSource}
 use Rattle.laws_types.specs.SourceUnits as of
-use Rattle.mc_placed.specs.Separate.{AreSeparateAfter}
-use Rattle.mc_ordered.specs.Laws.{BlocksAreNested}
+use Rattle.reread_law_printed.specs.placed.Separate.{AreSeparateAfter}
+use Rattle.reread_law_printed.specs.ordered.Laws.{BlocksAreNested}
 use Rattle.laws_reread.specs.Separate.{RowsAreSeparate}
 use Rattle.laws_reread.proofs.Ready.{le, same, Ready, ready_later, may_be_last, front, left, Goes, followed, wider}
-use Rattle.laws_reread.proofs.Labels.{left_inside, right_inside, labels_in_function}
+use Rattle.laws_reread.proofs.Labels.{labels_in_function}
 use Rattle.laws_reread.proofs.Reading.{grows, spelled, item_leaves, Here, step, Later, passed, stars_leave, block_leaves, block_laid}
 use Rattle.laws_reread.proofs.SeparateBodies.{block_forward, items}
+use Rattle.reread_law_texts.proofs.Tokens.{tk}
+use Rattle.reread_law_rows.proofs.Fitting.Profile.{left_inside, right_inside}
 
 -- ---- rows of a function that are there or not
 

@@ -2,7 +2,6 @@
 use Rattle.std.proofs.Common.{◌≡◌, ℕ, zero, suc, true, false, not, List, [], ◌∷◌, ◌++◌, Option, Some, None, refl, ap, sym, subst, ◌∙◌, codes}
 use Rattle.std.specs.Str.{bytes_eq}
 use Rattle.std.specs.List.{list_all}
-use Rattle.mc_span.specs.declared.span.Span.{Span}
 use Rattle.mc_lex.specs.Tokens.{Tok}
 use Rattle.mc_tree.specs.declared.expressions.unary_operator.UnaryOperator.{UnaryOperator}
 use Rattle.mc_tree.specs.declared.expressions.unary_operator.UnaryOperator.TheVariants as unary
@@ -12,23 +11,22 @@ use Rattle.mc_tree.specs.declared.expressions.binary_operator.BinaryOperator.{Bi
 use Rattle.mc_tree.specs.declared.expressions.binary_operator.BinaryOperator.TheVariants as binary
 use Rattle.mc_tree.specs.declared.expressions.assignment_operator.AssignmentOperator.{AssignmentOperator}
 use Rattle.mc_tree.specs.declared.expressions.assignment_operator.AssignmentOperator.TheVariants as assign
-use Rattle.mc_tree.specs.Tree.{Name, Expression, Expressions, TypeName, Specifier, Specifiers, ArrayLengths, Parameters, Parameter, ParameterList, Members, Enumerators}
+use Rattle.mc_tree.specs.Tree.{Name, Expression, Expressions, TypeName, Specifier, Specifiers, ArrayLengths, Parameters, Parameter, ParameterList}
 use Rattle.mc_tree.specs.Tree as tree
 use Rattle.subset_forms.specs.declared.context.Region.TheVariants as region
 use Rattle.subset_forms.specs.declared.context.Role.{Role}
 use Rattle.subset_forms.specs.declared.context.Role.TheVariants as role
-use Rattle.subset_forms.specs.declared.form.Form.{Form}
-use Rattle.subset_forms.specs.declared.outside.Outside.{Outside}
 use Rattle.subset_forms.specs.Contexts.{role_of_operands, role_in_parentheses}
-use Rattle.subset_forms.specs.Order.{or_else}
 use Rattle.mc_subset.specs.Nodes.{Node, an_expression, a_type_name, a_specifier, a_parameter_list, a_parameter, nodes_of_expression, nodes_of_expressions, nodes_of_type, nodes_of_specifier, nodes_of_specifiers, nodes_of_lengths, nodes_of_parameters, nodes_of_parameter, nodes_of_parameter_list}
-use Rattle.mc_subset.specs.Forms.{form_of, place_of, outside_at, first_outside}
+use Rattle.mc_subset.specs.Forms.{first_outside}
 use Rattle.mc_grammar.specs.Words.{Lexeme, is_identifier_kind}
 use Rattle.mc_grammar.specs.Spelling.{Spelled, IsSpelled, Spells, Punctuator, Keyword, Identifier, TypedefName, Tag, Constant, Character, Typedef, text_of_unary, text_of_step, text_of_binary, text_of_assignment, spell, spell_expressions, spell_type_name, spell_specifier, spell_specifiers, spell_stars, spell_name, spell_lengths, spell_parameters, spell_parameter, spell_parameter_list}
 use Rattle.mc_grammar.specs.Spelling as spelling
-use Rattle.mc_parts.specs.Stands.{is_brace}
-use Rattle.laws_reread.proofs.Tokens.{Clear, AreClear, keyword_kind, identifier_no_sign, left_of, sign_text}
-use Rattle.laws_reread.proofs.Leaving.{tk, retag_tokens}
+use Rattle.reread_law_printed.specs.parts.Stands.{is_brace}
+use Rattle.laws_reread.proofs.Tokens.{Clear, AreClear}
+use Rattle.reread_law_texts.proofs.Tokens.{tk, retag_tokens}
+use Rattle.reread_law_rows.proofs.Fitting.Sections.{keyword_kind, identifier_no_sign, left_of, sign_text}
+use Rattle.reread_law_rows.proofs.Fitting.Profile.{head_inside, rest_inside, left_inside, right_inside, no_structure, no_enumeration}
 
 -- ---- spelled tokens
 
@@ -115,49 +113,11 @@ assignment_free assign.BitAnd = refl
 assignment_free assign.BitXor = refl
 assignment_free assign.BitOr = refl
 
--- ---- lists of nodes
-
-none_first : (a b : Option Outside) → or_else a b ≡ None → a ≡ None
-none_first None b h = refl
-none_first (Some x) b h = absurd (cc)
-
-none_later : (a b : Option Outside) → or_else a b ≡ None → b ≡ None
-none_later None b h = h
-none_later (Some x) b h = absurd (cc)
-
-no_form : (o : Option Form) (p : Span) → outside_at o p ≡ None → o ≡ None
-no_form None p h = refl
-no_form (Some f) p h = absurd (cc)
-
-head_inside : (n : Node) (rest : List Node) → first_outside (n ∷ rest) ≡ None → form_of n ≡ None
-head_inside n rest h = no_form (form_of n) (place_of n) (none_first (outside_at (form_of n) (place_of n)) (first_outside rest) h)
-
-pub rest_inside : (n : Node) (rest : List Node) → first_outside (n ∷ rest) ≡ None → first_outside rest ≡ None
-rest_inside n rest h = none_later (outside_at (form_of n) (place_of n)) (first_outside rest) h
-
-pub left_inside : (xs ys : List Node) → first_outside (xs ++ ys) ≡ None → first_outside xs ≡ None
-left_inside [] ys h = refl
-left_inside (n ∷ xs) ys h =
-    let a = outside_at (form_of n) (place_of n) in
-    ap (λ o. or_else o (first_outside xs)) (none_first a (first_outside (xs ++ ys)) h) ∙ left_inside xs ys (none_later a (first_outside (xs ++ ys)) h)
-
-pub right_inside : (xs ys : List Node) → first_outside (xs ++ ys) ≡ None → first_outside ys ≡ None
-right_inside [] ys h = h
-right_inside (n ∷ xs) ys h = right_inside xs ys (none_later (outside_at (form_of n) (place_of n)) (first_outside (xs ++ ys)) h)
-
 -- ---- specifiers
 
 -- where no `{` is spelled after it, none is with it
 abbrev Free : (List Spelled → List Spelled) → Type 0
 Free spelled = (after : List Spelled) → NoBraces after → NoBraces (spelled after)
-
-no_structure : (tag : Option Name) (all : Members) (span : Span) → form_of (a_specifier (tree.Structure tag all span) region.Function) ≡ None → ⊥
-unfolding form_of
-no_structure tag all span h = cc
-
-no_enumeration : (tag : Option Name) (all : Enumerators) (span : Span) → form_of (a_specifier (tree.Enumeration tag all span) region.Function) ≡ None → ⊥
-unfolding form_of
-no_enumeration tag all span h = cc
 
 specifier_free : (s : Specifier) → first_outside (nodes_of_specifier region.Function s) ≡ None → Free (spell_specifier s)
 specifier_free (tree.Word w span) h after k = (tt, k)

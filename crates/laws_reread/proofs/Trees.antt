@@ -22,7 +22,7 @@ use Rattle.mc_subset.specs.Forms.{first_outside}
 use Rattle.mc_grammar.specs.Spelling.{Spelled, text_of_unary, text_of_step, text_of_binary, text_of_assignment, spell, spell_expressions, spell_type_name, spell_specifier, spell_specifiers, spell_members, spell_enumerator, spell_enumerators, spell_declarator, spell_declarators, spell_stars, spell_tag, spell_name, spell_lengths, spell_parameters, spell_parameter, spell_parameter_list}
 use Rattle.laws_reread.proofs.Signs.{brackets, none_of}
 use Rattle.laws_reread.proofs.Stretch.{begins_brace, Stretch, empty, free, round, square, curly, join}
-use Rattle.laws_reread.proofs.Profile.{head_inside, rest_inside, left_inside, right_inside, no_structure, no_enumeration}
+use Rattle.reread_law_rows.proofs.Fitting.Profile.{head_inside, rest_inside, left_inside, right_inside, no_structure, no_enumeration}
 
 -- ---- operators
 

@@ -2,8 +2,8 @@
 use Rattle.std.proofs.Common.{◌≡◌, ◌≤◌, ◌<◌, ◌+◌, ℕ, Bool, true, false, not, ◌&&◌, List, [], ◌∷◌, ◌++◌, length, refl, sym, ap, subst, ◌∙◌, arith, true≢false}
 use Rattle.std.specs.List.{list_all}
 use Rattle.mc_lex.specs.Tokens.{Tok}
-use Rattle.mc_alike.specs.Moves.{FollowFrom, end_of}
-use Rattle.mc_parts.specs.Stands.{is_brace}
+use Rattle.reread_law_texts.specs.alike.Moves.{FollowFrom, end_of}
+use Rattle.reread_law_printed.specs.parts.Stands.{is_brace}
 
 -- the same tokens before one, the same one, and the same tokens after it
 pub record Same (a b : List Tok) (x y : Tok) (r s : List Tok) : Type 0 where

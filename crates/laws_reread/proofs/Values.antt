@@ -17,14 +17,14 @@ use Rattle.decide_rules.specs.Counts.{roots}
 use Rattle.mc_probe.specs.Maps.{Map}
 use Rattle.mc_probe.specs.Tree as p
 use Rattle.mc_probe.specs.Table.{Stand, Loose, role_of, under, beside, inner, put, put_place, put_call, put_structure, put_argument, put_arguments, put_effect}
-use Rattle.mc_inserted.specs.Rows.{Row, Rows, rows, rows_in_place, rows_in_structure, rows_in_argument, rows_in_arguments, rows_in_effect}
+use Rattle.reread_law_rows.specs.inserted.Rows.{Row, Rows, rows, rows_in_place, rows_in_structure, rows_in_argument, rows_in_arguments, rows_in_effect}
 use Rattle.laws_types.specs.Source.{IsOneAt, IsNumberOf, IsOperandOf, IsPlaceOf, IsCallOf, AreArgumentsOf, IsArgumentOf, IsStructureOf, IsEffectOf}
 use Rattle.laws_types.specs.Source as of
-use Rattle.mc_signed.proofs.Split.{probed_by}
-use Rattle.mc_signed.proofs.Wrapped.{put_extent, converted_rows}
-use Rattle.mc_signed.proofs.Values.{one_silent}
-use Rattle.mc_placed.specs.Separate.{AreSeparateAfter}
-use Rattle.mc_ordered.specs.Nested.{Nested, HoldsAll}
+use Rattle.reread_law_rows.proofs.Signed.Split.{probed_by}
+use Rattle.reread_law_rows.proofs.Signed.Wrapped.{put_extent, converted_rows}
+use Rattle.reread_law_rows.proofs.Signed.Values.{one_silent}
+use Rattle.reread_law_printed.specs.placed.Separate.{AreSeparateAfter}
+use Rattle.reread_law_printed.specs.ordered.Nested.{Nested, HoldsAll}
 use Rattle.laws_reread.proofs.Ready.{le, same, Goes}
 use Rattle.laws_reread.proofs.Around.{silent, next, wide, node, wrapped, forward}
 

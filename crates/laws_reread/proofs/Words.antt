@@ -3,9 +3,9 @@ use Rattle.std.proofs.Common.{◌≡◌, List, [], ◌∷◌, map, subst}
 use Rattle.std.specs.List.{AllByRecursion as Each}
 use Rattle.std.proofs.lemmas.List.Elements.{recursion_from_All}
 use Rattle.mc_lex.specs.Tokens.{Tok}
-use Rattle.mc_alike.specs.Moves.{without_place}
-use Rattle.mc_spelled.specs.Words.{kind_in, numeral}
-use Rattle.mc_spelled.proofs.Printed.{kinds_kept}
+use Rattle.reread_law_texts.specs.alike.Moves.{without_place}
+use Rattle.reread_law_printed.specs.spelled.Words.{kind_in, numeral}
+use Rattle.reread_law_printed.proofs.Spelled.Printed.{kinds_kept}
 use Rattle.laws_reread.specs.Headed.{SourcesHaveNumerals, SourcesKeepKinds}
 
 pub have_numerals : SourcesHaveNumerals

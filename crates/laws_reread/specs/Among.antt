@@ -12,9 +12,9 @@ use Rattle.mc_typed.specs.Tree.{Program}
 use Rattle.types_rules.specs.Typing.{typing_of}
 use Rattle.mc_probe.specs.Maps.{Map}
 use Rattle.mc_probe.specs.Table.{instrumented}
-use Rattle.mc_alike.specs.Moves.{FollowFrom}
-use Rattle.mc_fitting.specs.Laws.{MeanTheirKinds}
-use Rattle.mc_parts.specs.Laws.{Stands}
+use Rattle.reread_law_texts.specs.alike.Moves.{FollowFrom}
+use Rattle.reread_law_rows.specs.fitting.Laws.{MeanTheirKinds}
+use Rattle.reread_law_printed.specs.parts.Laws.{Stands}
 
 -- of the tokens of a text of the profile, at any places where they follow each other
 abbrev pub TextsStand : Type 0

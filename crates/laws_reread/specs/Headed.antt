@@ -12,12 +12,12 @@ use Rattle.mc_typed.specs.Tree.{Program}
 use Rattle.types_rules.specs.Typing.{typing_of}
 use Rattle.mc_probe.specs.Maps.{Map}
 use Rattle.mc_probe.specs.Table.{instrumented}
-use Rattle.mc_alike.specs.Moves.{AreAlike}
-use Rattle.mc_fitting.specs.Laws.{MeanTheirKinds}
-use Rattle.mc_parts.specs.Closed.{AreBalanced}
-use Rattle.mc_parts.specs.Laws.{HasNumerals, Stands}
-use Rattle.mc_placed.specs.Heads.{HaveHeads}
-use Rattle.mc_placed.specs.Laws.{KindsStay}
+use Rattle.reread_law_texts.specs.alike.Moves.{AreAlike}
+use Rattle.reread_law_rows.specs.fitting.Laws.{MeanTheirKinds}
+use Rattle.reread_law_printed.specs.parts.Closed.{AreBalanced}
+use Rattle.reread_law_printed.specs.parts.Laws.{HasNumerals, Stands}
+use Rattle.reread_law_printed.specs.placed.Heads.{HaveHeads}
+use Rattle.reread_law_printed.specs.placed.Laws.{KindsStay}
 
 -- ---- words
 

@@ -21,19 +21,19 @@ use Rattle.mc_probe.specs.Trees.{tree_of}
 use Rattle.mc_probe.specs.Erase.{erase}
 use Rattle.mc_probe.specs.Maps.{Map, IsMapOf}
 use Rattle.mc_probe.specs.Table.{instrumented}
-use Rattle.mc_alike.specs.Moves.{FollowFrom, end_of}
-use Rattle.mc_brackets.specs.Signs.{poured}
-use Rattle.mc_still.specs.Unplaced.{unplaced}
-use Rattle.mc_still.specs.Laws.{IsMoved}
+use Rattle.reread_law_texts.specs.alike.Moves.{FollowFrom, end_of}
+use Rattle.reread_law_texts.specs.brackets.Signs.{poured}
+use Rattle.reread_law_places.specs.still.Unplaced.{unplaced}
+use Rattle.reread_law_places.specs.still.Laws.{IsMoved}
 use Rattle.mc_print.specs.Pens.{spaced}
 use Rattle.mc_print.specs.Texts.{text_of}
-use Rattle.mc_inserted.specs.Rows.{rows_of}
-use Rattle.mc_inserted.specs.Signs.{signs_of}
-use Rattle.mc_inserted.specs.Seats.{probe_rows, AreThere}
-use Rattle.mc_parts.specs.Parts.{parts_of}
-use Rattle.mc_parts.specs.Marks.{marks, own_tokens}
-use Rattle.mc_parts.specs.Shaped.{tokens_at}
-use Rattle.mc_parts.specs.Laws.{Stands}
+use Rattle.reread_law_rows.specs.inserted.Rows.{rows_of}
+use Rattle.reread_law_rows.specs.inserted.Signs.{signs_of}
+use Rattle.reread_law_rows.specs.inserted.Seats.{probe_rows, AreThere}
+use Rattle.reread_law_printed.specs.parts.Parts.{parts_of}
+use Rattle.reread_law_printed.specs.parts.Marks.{marks, own_tokens}
+use Rattle.reread_law_printed.specs.parts.Shaped.{tokens_at}
+use Rattle.reread_law_printed.specs.parts.Laws.{Stands}
 use Rattle.reread_program.specs.declared.fault.RereadFault.{RereadFault}
 use Rattle.reread_program.specs.declared.fault.RereadFault.TheVariants as fault
 use Rattle.reread_program.specs.Reading.{Reads, ReadsPieces}

@@ -10,9 +10,9 @@ use Rattle.mc_typed.specs.Tree.{Program}
 use Rattle.types_rules.specs.Typing.{typing_of}
 use Rattle.mc_probe.specs.Maps.{Map}
 use Rattle.mc_probe.specs.Table.{instrumented}
-use Rattle.mc_alike.specs.Moves.{FollowFrom}
-use Rattle.mc_inserted.specs.Rows.{rows_of}
-use Rattle.mc_placed.specs.Separate.{AreSeparate}
+use Rattle.reread_law_texts.specs.alike.Moves.{FollowFrom}
+use Rattle.reread_law_rows.specs.inserted.Rows.{rows_of}
+use Rattle.reread_law_printed.specs.placed.Separate.{AreSeparate}
 
 -- Of the rows of a text of the profile, at any places where its tokens follow each other, each may
 -- stand directly after the one before it.

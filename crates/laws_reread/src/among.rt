@@ -2,10 +2,10 @@
 ghost use Rattle.laws_reread.specs.Among.{SourcesStand, TextsStand};
 
 use laws_types::programs_have_their_source;
-use mc_alike::laws::tokens_follow;
-use mc_carried::laws::rows_fit;
-use mc_fitting::laws::{scanned_tokens_mean_their_kinds, texts_fit};
-use mc_ordered::laws::{blocks_are_nested, rows_are_in_order};
+use reread_law_printed::laws::ordered::{blocks_are_nested, rows_are_in_order};
+use reread_law_rows::laws::carried::rows_fit;
+use reread_law_rows::laws::fitting::{scanned_tokens_mean_their_kinds, texts_fit};
+use reread_law_texts::laws::alike::tokens_follow;
 
 /// The functions and rows of a program stand among the tokens of its text, each where the table
 /// puts it and after the one before it.

@@ -16,31 +16,33 @@ use crate::headed::{
 use crate::separate::rows_are_separate;
 use laws_simulation::instrumented_programs_erase;
 use laws_soundness::laws::units_are_sound;
-use mc_alike::laws::{alike_texts_have_moved_trees, forms_are_kept, height_is_kept, trees_move};
-use mc_apart::laws::{brackets_start_before, places_are_apart, places_have_bytes};
-use mc_brackets::laws::poured_texts_have_bracketed_trees;
-use mc_converted::laws::implied_conversions_stand;
-use mc_counted::laws::instrumented_units_are_counted;
-use mc_fitting::laws::scanned_tokens_mean_their_kinds;
 use mc_grammar::laws::tree_is_no_longer_than_text;
-use mc_natural::laws::units_move;
-use mc_parts::laws::{
+use reread_law_places::laws::natural::units_move;
+use reread_law_printed::laws::parts::{
     own_tokens_are_alike, parts_move, pieces_of_parts, plain_is_poured, probes_are_there,
     words_of_parts,
 };
-use mc_placed::laws::{
+use reread_law_printed::laws::placed::{
     functions_have_entries, parts_are_followed, parts_are_inside, parts_are_placed,
     parts_come_after, sources_have_own_words, values_are_typed,
 };
-use mc_put::laws::tables_are_put_back;
-use mc_shifted::laws::rows_are_moved;
-use mc_short::laws::instrumented_numbers_are_short;
-use mc_signed::laws::{brackets_have_places, signs_are_those_of_the_tree};
-use mc_spelled::laws::printed_text_scans;
-use mc_stood::laws::{programs_stand_apart, stands_are_apart};
-use mc_taken::laws::{locals_are_apart, probes_are_taken};
-use mc_unwoven::laws::trees_come_back;
-use mc_weave::laws::height_is_within;
+use reread_law_printed::laws::shifted::rows_are_moved;
+use reread_law_printed::laws::spelled::printed_text_scans;
+use reread_law_probes::laws::converted::implied_conversions_stand;
+use reread_law_probes::laws::counted::instrumented_units_are_counted;
+use reread_law_probes::laws::put::tables_are_put_back;
+use reread_law_probes::laws::short::instrumented_numbers_are_short;
+use reread_law_probes::laws::stood::{programs_stand_apart, stands_are_apart};
+use reread_law_rows::laws::fitting::scanned_tokens_mean_their_kinds;
+use reread_law_rows::laws::signed::{brackets_have_places, signs_are_those_of_the_tree};
+use reread_law_rows::laws::taken::{locals_are_apart, probes_are_taken};
+use reread_law_texts::laws::alike::{
+    alike_texts_have_moved_trees, forms_are_kept, height_is_kept, trees_move,
+};
+use reread_law_texts::laws::apart::{brackets_start_before, places_are_apart, places_have_bytes};
+use reread_law_texts::laws::brackets::poured_texts_have_bracketed_trees;
+use reread_law_texts::laws::unwoven::trees_come_back;
+use reread_law_texts::laws::weave::height_is_within;
 use reread_program::laws::reads_as_one;
 
 /// The tokens of the source among the pieces of a printed text follow each other, and end in the

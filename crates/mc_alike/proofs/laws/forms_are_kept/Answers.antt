@@ -1,8 +1,0 @@
-use Rattle.mc_alike.proofs.Nodes.{forms_kept, refusal_kept}
-use Rattle.mc_alike.proofs.laws.forms_are_kept.Goals as goal
-
-pub returns-clause-forms : goal.returns-clause-forms
-returns-clause-forms c = forms_kept
-
-pub returns-clause-refusal : goal.returns-clause-refusal
-returns-clause-refusal c = refusal_kept

@@ -1,4 +1,0 @@
-pub mod Moves
-pub mod Trees
-pub mod Laws
-pub mod Samples

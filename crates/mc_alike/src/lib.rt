@@ -1,6 +1,0 @@
-//! Laws of texts that differ in blanks and comments alone: their trees differ in places alone.
-//! There is no code in it, but laws.
-#![tactic(auto)]
-
-pub mod laws;
-pub mod worked;

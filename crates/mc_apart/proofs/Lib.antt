@@ -1,5 +1,0 @@
-pub mod Ascending
-pub mod ApartExpressions
-mod ApartStatements
-mod StatementsApart
-mod Enclosing

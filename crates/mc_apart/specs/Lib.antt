@@ -1,5 +1,0 @@
-pub mod Places
-pub mod Distinct
-pub mod Enclosed
-pub mod Laws
-pub mod Worked

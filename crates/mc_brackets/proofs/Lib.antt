@@ -1,3 +1,0 @@
-mod Pour
-mod PouredExpressions
-mod PouredStatements

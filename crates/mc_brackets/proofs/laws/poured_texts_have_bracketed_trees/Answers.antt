@@ -1,5 +1,0 @@
-use Rattle.mc_brackets.proofs.PouredStatements.{poured_tree}
-use Rattle.mc_brackets.proofs.laws.poured_texts_have_bracketed_trees.Goals as goal
-
-pub returns : goal.returns
-returns c d to w tokens unit l h p = poured_tree d to w tokens unit l h p

@@ -1,4 +1,0 @@
-mod Sitting
-mod Values
-mod Bodies
-mod Units

@@ -1,4 +1,0 @@
-mod Flags
-mod Values
-mod Bodies
-mod Units

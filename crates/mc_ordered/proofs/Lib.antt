@@ -1,4 +1,0 @@
-mod Going
-mod Values
-mod Bodies
-mod Reading

@@ -1,9 +1,0 @@
-pub mod Parts
-pub mod Stands
-pub mod Marks
-pub mod Moved
-pub mod Closed
-pub mod Shaped
-pub mod Placed
-pub mod Laws
-pub mod Worked

@@ -1,4 +1,0 @@
-pub mod Needs
-pub mod Separate
-pub mod Heads
-pub mod Laws

@@ -1,5 +1,0 @@
-pub mod Counting
-pub mod Values
-pub mod Bodies
-pub mod Settling
-pub mod Whole

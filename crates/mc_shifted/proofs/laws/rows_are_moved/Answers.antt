@@ -1,5 +1,0 @@
-use Rattle.mc_shifted.proofs.Whole.{rows_are_moved}
-use Rattle.mc_shifted.proofs.laws.rows_are_moved.Goals as goal
-
-pub returns : goal.returns
-returns c = rows_are_moved c.programs_have_their_source.ensures c.units_move.ensures.typing

@@ -1,6 +1,0 @@
-pub mod Meanings
-pub mod Spacing
-pub mod Inserted
-pub mod Written
-pub mod Printed
-pub mod Example

@@ -1,5 +1,0 @@
-pub mod Nodes
-pub mod Points
-pub mod Put
-pub mod Placeless
-pub mod Maps

@@ -1,5 +1,0 @@
-use Rattle.mc_stood.proofs.laws.places_are_apart.Goals as goal
-
-pub returns : goal.returns
-returns c d tokens unit p m follow tree typed =
-    c.programs_stand_apart.ensures unit p m typed (c.stands_are_apart.ensures d tokens unit follow tree)

@@ -1,3 +1,0 @@
-pub mod Stands
-pub mod Laws
-pub mod Worked

@@ -1,3 +1,0 @@
-mod Gone
-mod Ascend
-mod Kept

@@ -1,4 +1,0 @@
-pub mod Brackets
-pub mod Trees
-pub mod Weaving
-pub mod Laws

@@ -1,0 +1,2 @@
+mod Natural
+pub mod Still

@@ -1,0 +1,6 @@
+-- Probes and places. Lemmas.
+pub mod Nodes
+pub mod Points
+pub mod Put
+pub mod Placeless
+pub mod Maps

@@ -1,0 +1,2 @@
+pub mod natural
+pub mod still

@@ -1,0 +1,3 @@
+-- Probes and places.
+pub mod Unplaced
+pub mod Laws

@@ -1,0 +1,5 @@
+pub mod Spelled
+pub mod Parts
+pub mod Placed
+pub mod Shifted
+mod Ordered

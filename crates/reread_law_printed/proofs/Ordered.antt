@@ -1,0 +1,5 @@
+-- The order of rows. Lemmas.
+pub mod Going
+pub mod Values
+pub mod Bodies
+pub mod Reading

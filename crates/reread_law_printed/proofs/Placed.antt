@@ -1,0 +1,23 @@
+-- The places of the parts of a text with probes. Lemmas.
+pub mod Enough
+pub mod Wording
+pub mod Fronts
+pub mod Numbers
+pub mod Owned
+pub mod Whole
+pub mod AfterSpots
+pub mod AfterTokens
+pub mod AfterRows
+pub mod After
+pub mod InsideForm
+pub mod InsideState
+pub mod InsideEnds
+pub mod InsideBody
+pub mod Inside
+pub mod TypedWords
+pub mod TypedItem
+pub mod Typed
+pub mod FollowedWords
+pub mod FollowedParts
+pub mod FollowedRows
+pub mod Followed

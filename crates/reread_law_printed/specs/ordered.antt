@@ -1,0 +1,3 @@
+-- The order of rows.
+pub mod Nested
+pub mod Laws

@@ -1,0 +1,2 @@
+-- The rows of a program at other places.
+pub mod Laws

@@ -1,0 +1,5 @@
+mod Put
+mod Counted
+mod Converted
+mod Stood
+mod Short

@@ -1,0 +1,5 @@
+pub mod put
+pub mod counted
+pub mod converted
+pub mod stood
+pub mod short

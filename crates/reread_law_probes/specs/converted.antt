@@ -1,0 +1,2 @@
+-- The implied conversions of a typed text.
+pub mod Laws

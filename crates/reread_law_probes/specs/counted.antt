@@ -1,0 +1,2 @@
+-- The bits of an instrumented program.
+pub mod Laws

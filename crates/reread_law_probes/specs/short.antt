@@ -1,0 +1,2 @@
+-- The numbers of probes.
+pub mod Laws

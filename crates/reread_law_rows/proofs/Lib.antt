@@ -1,0 +1,4 @@
+pub mod Fitting
+pub mod Signed
+mod Taken
+mod Carried

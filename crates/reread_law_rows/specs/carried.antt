@@ -1,0 +1,2 @@
+-- Rows and the text in which they stand.
+pub mod Laws

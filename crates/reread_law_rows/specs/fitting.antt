@@ -1,0 +1,3 @@
+-- Where the rows of the table may stand in a text.
+pub mod Fitting
+pub mod Laws

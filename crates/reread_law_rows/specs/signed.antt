@@ -1,0 +1,2 @@
+-- The brackets that the table inserts.
+pub mod Laws

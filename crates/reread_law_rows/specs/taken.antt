@@ -1,0 +1,3 @@
+-- The probes of an instrumented text.
+pub mod Locals
+pub mod Laws

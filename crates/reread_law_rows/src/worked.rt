@@ -1,0 +1,3 @@
+//! Worked texts, a file for each folder of definitions.
+
+pub mod inserted;

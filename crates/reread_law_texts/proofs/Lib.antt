@@ -1,0 +1,6 @@
+pub mod Tokens
+mod Alike
+pub mod Weave
+mod Bracketed
+mod Unwoven
+pub mod Apart

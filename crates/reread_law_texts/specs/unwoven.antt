@@ -1,0 +1,2 @@
+-- Brackets that are taken out of a tree again.
+pub mod Laws

@@ -1,0 +1,7 @@
+//! The laws, a file for each folder of definitions.
+
+pub mod alike;
+pub mod apart;
+pub mod brackets;
+pub mod unwoven;
+pub mod weave;

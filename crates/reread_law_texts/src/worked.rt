@@ -1,0 +1,5 @@
+//! Worked texts, a file for each folder of definitions.
+
+pub mod alike;
+pub mod apart;
+pub mod brackets;
