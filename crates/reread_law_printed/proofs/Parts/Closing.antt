@@ -67,7 +67,7 @@ no_bracket t = by_tests (is (codes "(") t) (is (codes ")") t) (is (codes "[") t)
     by_tests false false false false false true h = absurd (cc)
     by_tests false false false false false false h = refl
 
-record IsPair (a b : Tok) : Type 0 where
+pub record IsPair (a b : Tok) : Type 0 where
   pub bracket : Bracket
   pub opens : what_of a ≡ what.Opening bracket
   pub closes : what_of b ≡ what.Closing
