@@ -33,6 +33,8 @@ mutate --fuel=8 a.c a.csv --workers 64@a.c|a.csv|64|8|mutate
 mutate a.c --workers=1 -- a.csv@a.c|a.csv|1|1000000|mutate
 list a.c a.csv@a.c|a.csv|4|1000000|list|unique
 list --justify j.json a.c a.csv --mode=masking --workers 1@a.c|a.csv|1|1000000|list|masking|j.json
+functions a.c a.csv@a.c|a.csv|4|1000000|functions|unique
+functions --of m.c a.c a.csv --mode=masking --justify j.json@a.c|a.csv|4|1000000|functions|masking|of m.c|j.json
 selfload 1 --workers 64@selfload|1|64
 vectors \u{e9}.c \u{4e2d}.csv@\u{e9}.c|\u{4e2d}.csv|4|1000000|vectors
 @
@@ -76,6 +78,10 @@ mutate a.c a.csv --fuel 0@
 mutate a.c a.csv --mode unique@
 mutate a.c a.csv --justify j.json@
 list a.c a.csv --format text@
+list a.c a.csv --of m.c@
+functions a.c@
+functions a.c a.csv --of@
+functions a.c a.csv --format text@
 ";
 
 fn push_words(words: &mut Words, line: &str) -> Result<(), AllocError> {

@@ -29,20 +29,26 @@ fn push_justify(text: &mut String, justify: Option<&str>) -> Result<(), AllocErr
     }
 }
 
-fn telling_word(telling: Telling) -> &'static str {
+fn telling_word(telling: Telling<'_>) -> &'static str {
     match telling {
         Telling::Report(_) => "report|",
         Telling::Listing => "list|",
+        Telling::Functions { .. } => "functions|",
     }
 }
 
-fn push_form(text: &mut String, telling: Telling) -> Result<(), AllocError> {
+// The form of a report, or the file that is named.
+fn push_form(text: &mut String, telling: Telling<'_>) -> Result<(), AllocError> {
     match telling {
         Telling::Report(form) => {
             text.push_str("|")?;
             text.push_str(form_word(form))
         }
-        Telling::Listing => Ok(()),
+        Telling::Listing | Telling::Functions { of: None } => Ok(()),
+        Telling::Functions { of: Some(name) } => {
+            text.push_str("|of ")?;
+            text.push_str(name)
+        }
     }
 }
 
