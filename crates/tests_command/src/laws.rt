@@ -3,7 +3,7 @@
 #![tactic(auto, unfolding(mc_command::specs::Command::command_of, clap::proofs::OnLiterals::clap_on_literals))]
 
 ghost use Rattle.std.specs.Prelude.{◌∷◌, [], None, Some, codes};
-ghost use Rattle.mc_command.specs.Command.{instrumented, judged, listing, merge, mutated, on_matrix, on_source, recorded, reduced, selfload, vectors, watched, write};
+ghost use Rattle.mc_command.specs.Command.{functions, instrumented, judged, listing, merge, mutated, on_matrix, on_source, recorded, reduced, selfload, vectors, watched, write};
 ghost use Rattle.report_options.specs.declared.form.Form.TheVariants.{Csv, Json, Text};
 ghost use Rattle.report_options.specs.declared.mode.Mode.TheVariants.{Masking, Unique};
 ghost use Rattle.tests_command.specs.Lines.{AreAll, Is, analysis, justified_by, matrix_of, plain_report, report_by, run_by, run_of, vectors_by, vectors_of, vectors_shared};
@@ -118,6 +118,18 @@ pub fn commands_of_testers()
           mode = Masking;
           justify = Some (codes "j.json");
           telling = listing;
+        }))) }
+    ensures counted { Is (codes "functions a.c a.csv --fuel 8")
+        (matrix_of 8 (judged (record {
+          mode = Unique;
+          justify = None;
+          telling = functions None;
+        }))) }
+    ensures counted_of { Is (codes "functions a.c --of m.c a.csv --mode masking --fuel 8")
+        (matrix_of 8 (judged (record {
+          mode = Masking;
+          justify = None;
+          telling = functions (Some (codes "m.c"));
         }))) }
 {}
 
