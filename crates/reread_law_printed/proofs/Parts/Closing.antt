@@ -10,7 +10,7 @@ use Rattle.reread_pieces.specs.declared.bracket.Bracket.TheVariants as bracket
 use Rattle.reread_pieces.specs.declared.piece.What.{What}
 use Rattle.reread_pieces.specs.declared.piece.What.TheVariants as what
 use Rattle.reread_pieces.specs.Words.{is}
-use Rattle.reread_pieces.specs.Rows.{is_value}
+use Rattle.reread_pieces.specs.Rows.{is_value, is_body}
 use Rattle.mc_print.specs.Pens.{Pen}
 use Rattle.reread_law_texts.specs.alike.Moves.{FollowFrom, end_of}
 use Rattle.reread_law_rows.specs.inserted.Rows.{Row, Rows, row}
@@ -72,16 +72,18 @@ pub record IsPair (a b : Tok) : Type 0 where
   pub opens : what_of a ≡ what.Opening bracket
   pub closes : what_of b ≡ what.Closing
   pub ends : closes_with b.text (Some bracket) ≡ true
+  pub inner : is_body (Some bracket) ≡ false
 
-of_texts : (a b : Tok) (x : Bracket) (s t : List ℕ) → is s a ≡ true → is t b ≡ true
+pub of_texts : (a b : Tok) (x : Bracket) (s t : List ℕ) → is s a ≡ true → is t b ≡ true
     → what_of (record { kind = a.kind; text = s; start = a.start }) ≡ what.Opening x
     → what_of (record { kind = b.kind; text = t; start = b.start }) ≡ what.Closing
-    → closes_with t (Some x) ≡ true → IsPair a b
-of_texts a b x s t e f o c k = record {
+    → closes_with t (Some x) ≡ true → is_body (Some x) ≡ false → IsPair a b
+of_texts a b x s t e f o c k inner = record {
   bracket = x;
   opens = what_by a s (same_text a.text s e) ∙ o;
   closes = what_by b t (same_text b.text t f) ∙ c;
   ends = ap (λ l. closes_with l (Some x)) (same_text b.text t f) ∙ k;
+  inner = inner;
 }
 
 pub is_pair_of : (a b : Tok) → is_pair a b ≡ true → IsPair a b
@@ -89,13 +91,13 @@ is_pair_of a b = by_tests (is (codes "(") a) (is (codes ")") b) (is (codes "[") 
   where
     by_tests : (c d e f g h : Bool) → is (codes "(") a ≡ c → is (codes ")") b ≡ d → is (codes "[") a ≡ e → is (codes "]") b ≡ f → is (codes "{") a ≡ g → is (codes "}") b ≡ h
         → (c && d || e && f || g && h) ≡ true → IsPair a b
-    by_tests true true e f g h p q r s t u all = of_texts a b bracket.Parenthesis (codes "(") (codes ")") p q refl refl refl
-    by_tests false d true true g h p q r s t u all = of_texts a b bracket.Square (codes "[") (codes "]") r s refl refl refl
-    by_tests true false true true g h p q r s t u all = of_texts a b bracket.Square (codes "[") (codes "]") r s refl refl refl
-    by_tests false d false f true true p q r s t u all = of_texts a b bracket.Brace (codes "{") (codes "}") t u refl refl refl
-    by_tests false d true false true true p q r s t u all = of_texts a b bracket.Brace (codes "{") (codes "}") t u refl refl refl
-    by_tests true false false f true true p q r s t u all = of_texts a b bracket.Brace (codes "{") (codes "}") t u refl refl refl
-    by_tests true false true false true true p q r s t u all = of_texts a b bracket.Brace (codes "{") (codes "}") t u refl refl refl
+    by_tests true true e f g h p q r s t u all = of_texts a b bracket.Parenthesis (codes "(") (codes ")") p q refl refl refl refl
+    by_tests false d true true g h p q r s t u all = of_texts a b bracket.Square (codes "[") (codes "]") r s refl refl refl refl
+    by_tests true false true true g h p q r s t u all = of_texts a b bracket.Square (codes "[") (codes "]") r s refl refl refl refl
+    by_tests false d false f true true p q r s t u all = of_texts a b bracket.Brace (codes "{") (codes "}") t u refl refl refl refl
+    by_tests false d true false true true p q r s t u all = of_texts a b bracket.Brace (codes "{") (codes "}") t u refl refl refl refl
+    by_tests true false false f true true p q r s t u all = of_texts a b bracket.Brace (codes "{") (codes "}") t u refl refl refl refl
+    by_tests true false true false true true p q r s t u all = of_texts a b bracket.Brace (codes "{") (codes "}") t u refl refl refl refl
     by_tests c d e f g h p q r s t u all = absurd (cc)
 
 pub balanced : {xs : List Tok} → IsBalanced xs → Neutral xs

@@ -23,7 +23,7 @@ use Rattle.reread_law_printed.specs.parts.Shaped.{after_part}
 use Rattle.reread_law_printed.proofs.Parts.Tied.{Inner, inner_rows, Fit, all_fit}
 use Rattle.reread_law_printed.proofs.Parts.Walked.{tied_body}
 use Rattle.reread_law_printed.proofs.Parts.Runs.{of_function, State}
-use Rattle.reread_law_printed.proofs.Parts.Closing.{balanced}
+use Rattle.reread_law_printed.proofs.Parts.Closing.{balanced, of_texts}
 use Rattle.reread_law_printed.proofs.Parts.Told.{copied_is}
 use Rattle.reread_law_printed.proofs.Parts.Worded as worded
 use Rattle.reread_law_printed.specs.placed.Needs.{Typed, Along}
@@ -33,7 +33,7 @@ use Rattle.reread_law_printed.proofs.Placed.InsideForm.{stop, middle, exit_parts
 use Rattle.reread_law_printed.proofs.Placed.InsideBody.{copied_plain, plain_row, head_run, body_run, closing_what, run_neutral}
 use Rattle.reread_law_printed.proofs.Placed.Inside.{at_start, parts_are}
 use Rattle.reread_law_printed.proofs.Placed.TypedWords.{item_words, words_are, texts_at, words_both, copied_words, type_is}
-use Rattle.reread_law_printed.proofs.Placed.TypedItem.{item_run, item_both, TypeFits, Fine, advance, of_texts, paired, within, plain_item, plain_items, last_semicolon, ended_item}
+use Rattle.reread_law_printed.proofs.Placed.TypedItem.{item_run, item_both, TypeFits, Fine, advance, paired, within, plain_item, plain_items, last_semicolon, ended_item}
 use Rattle.reread_law_printed.proofs.Parts.Placing.{turned}
 
 -- ---- the parts are of a type
@@ -110,7 +110,7 @@ module _ {f : p.Function} {suffix : List Tok} (q : IsFunctionAmong suffix f) (h 
   parameters_stay : (words later : List (List ℕ)) → item_run [] words (map copied q.parameters) later ≡ words
   parameters_stay words later =
       ap (λ l. item_run [] words (map copied l) later) h.pair
-      ∙ paired h.first h.last h.between [] [] words later (of_texts h.first h.last bracket.Parenthesis (codes "(") (codes ")") h.opens h.closes refl refl refl) (balanced h.within) (within h.within)
+      ∙ paired h.first h.last h.between [] [] words later (of_texts h.first h.last bracket.Parenthesis (codes "(") (codes ")") h.opens h.closes refl refl refl refl) (balanced h.within) (within h.within)
 
   words_stay : (words later : List (List ℕ)) → item_run [] words (map copied own_words) later ≡ words
   words_stay words later =

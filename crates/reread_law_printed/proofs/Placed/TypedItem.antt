@@ -6,7 +6,6 @@ use Rattle.std.specs.Str.{bytes_eq}
 use Rattle.mc_lex.specs.Tokens.{Tok}
 use Rattle.mc_lex.proofs.Texts.{same_text}
 use Rattle.reread_pieces.specs.declared.bracket.Bracket.{Bracket}
-use Rattle.reread_pieces.specs.declared.bracket.Bracket.TheVariants as bracket
 use Rattle.reread_pieces.specs.declared.piece.What.{What}
 use Rattle.reread_pieces.specs.declared.piece.What.TheVariants as what
 use Rattle.reread_pieces.specs.Words.{is}
@@ -19,7 +18,7 @@ use Rattle.reread_law_printed.specs.parts.Marks.{first_token}
 use Rattle.reread_law_printed.specs.parts.Marks as marks
 use Rattle.reread_law_printed.specs.parts.Closed.{top, open_after, first_text}
 use Rattle.reread_law_printed.specs.parts.Shaped.{tokens_at, after_part}
-use Rattle.reread_law_printed.proofs.Parts.Closing.{Neutral, no_bracket, balanced, what_by, is_pair_of}
+use Rattle.reread_law_printed.proofs.Parts.Closing.{Neutral, no_bracket, balanced, what_by, IsPair, is_pair_of}
 use Rattle.reread_law_printed.specs.placed.Needs.{TypeBy, Typed, Along}
 use Rattle.reread_law_printed.proofs.Placed.InsideState.{brackets_are, run, run_both}
 use Rattle.reread_law_printed.proofs.Placed.InsideBody.{NoBody, run_neutral}
@@ -108,23 +107,6 @@ module _ (source : List Tok) where
       )
 
 -- ---- no end inside of brackets
-
-pub record IsPair (a b : Tok) : Type 0 where
-  pub bracket : Bracket
-  pub opens : what_of a ≡ what.Opening bracket
-  pub closes : what_of b ≡ what.Closing
-  pub inner : is_body (Some bracket) ≡ false
-
-pub of_texts : (a b : Tok) (x : Bracket) (s t : List ℕ) → is s a ≡ true → is t b ≡ true
-    → what_of (record { kind = a.kind; text = s; start = a.start }) ≡ what.Opening x
-    → what_of (record { kind = b.kind; text = t; start = b.start }) ≡ what.Closing
-    → is_body (Some x) ≡ false → IsPair a b
-of_texts a b x s t e f o c k = record {
-  bracket = x;
-  opens = what_by a s (same_text a.text s e) ∙ o;
-  closes = what_by b t (same_text b.text t f) ∙ c;
-  inner = k;
-}
 
 -- what stands in brackets ends nothing
 abbrev Within : List Tok → Type 0
