@@ -164,7 +164,7 @@ const OTHER: &str = "instrument|s.c|t.csv";
 
 /// A case, its words, the load that fails, the puts that fail on both sinks, and what the run
 /// gives.
-static FAULTS: [(&str, &str, u32, (u32, u32), (u32, u32), (u8, &str, &str)); 11] = [
+static FAULTS: [(&str, &str, u32, (u32, u32), (u32, u32), (u8, &str, &str)); 10] = [
     (
         "no source",
         ABSENT,
@@ -231,14 +231,6 @@ static FAULTS: [(&str, &str, u32, (u32, u32), (u32, u32), (u8, &str, &str)); 11]
         (7, "mcdc report unique\n", ""),
     ),
     ("usage", OTHER, 0, (0, 0), (1, 0), (7, "", "")),
-    (
-        "no load for the usage",
-        OTHER,
-        1,
-        (1, 0),
-        (0, 0),
-        (2, "", USAGE),
-    ),
 ];
 
 #[test]
@@ -252,5 +244,17 @@ fn faults_outside(rt: HostRuntime) -> Result<(), Fail> {
         let want = (*status, written.as_bytes(), told.as_bytes());
         assert!(rt; gives(&rt, rt.alloc(), &setting, want)?, "{case}");
     }
+    Ok(())
+}
+
+#[test]
+fn usage_asks_for_no_file(rt: HostRuntime) -> Result<(), Fail> {
+    let usage = usage_text(rt.alloc())?;
+    let mut setting = plain(SOURCE.as_bytes(), TESTS.as_bytes());
+    setting.words = OTHER;
+    setting.failing_load = 1;
+    setting.failing_out = (1, 0);
+    assert!(rt; gives(&rt, rt.alloc(), &setting, (2, b"", &usage))?);
+    drop(usage);
     Ok(())
 }

@@ -1,0 +1,20 @@
+//! What definitions and laws of other crates say of single cases. There is no code in it, but laws.
+#![tactic(auto)]
+
+mod decisions;
+mod grammar;
+mod names;
+mod stores;
+mod tests_files;
+mod types;
+mod vectors;
+
+pub use decisions::large_is_at_its_root;
+pub use grammar::{qualifier_is_no_type, sections_have_an_end};
+pub use names::{each_text_is_told, texts_on_names};
+pub use stores::activations_are_unset;
+pub use tests_files::fields_are_told;
+pub use types::{
+    conversion_is_implied, names_have_no_fault, roots_stand_in_the_body, tables_are_whole,
+};
+pub use vectors::{full_operators_have_numbers, ranks_rise};

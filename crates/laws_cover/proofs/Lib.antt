@@ -1,0 +1,4 @@
+pub mod Runs
+pub mod Counted
+pub mod Sums
+pub mod Worked

@@ -1,0 +1,26 @@
+//! The functions do nothing: each has a law as its contract.
+ghost use Rattle.laws_verdicts.specs.Cases.{FailuresAreCounted, OneEventIsNoPair, WantPutsNothing};
+ghost use Rattle.laws_verdicts.specs.Names.{NamesAreApart};
+ghost use Rattle.laws_verdicts.specs.Counts.{CountsAddUp};
+
+/// No two obligations of a map have one name.
+pub fn names_are_apart()
+    ensures { NamesAreApart }
+{}
+
+/// The four counts of a kind add up to its total.
+pub fn counts_add_up()
+    ensures { CountsAddUp }
+{}
+
+/// No event alone shows a condition.
+pub fn one_event_is_no_pair()
+    ensures { OneEventIsNoPair }
+{}
+
+/// Where a report is not written, nothing was put for want of memory, and else the sink's count of
+/// faults rose.
+pub fn failures_are_told()
+    ensures want { WantPutsNothing }
+    ensures count { FailuresAreCounted }
+{}
