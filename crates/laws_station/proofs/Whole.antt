@@ -28,7 +28,7 @@ use Rattle.mc_station.specs.Stages.{Ends, Judges, Stage, after_source, after_tes
 use Rattle.laws_station.specs.Whole.{MatrixIsInLimit, before_reasons, reasons_in, requests_before}
 use Rattle.mc_station.proofs.Naming.{source_of}
 use Rattle.mc_station.proofs.Allowing.{allowed_fits}
-use Rattle.mc_station.proofs.Causes.{Because, leads_cause, of_record, of_source}
+use Rattle.mc_station.proofs.Causes.{Because, leads_cause, of_record, of_source_of}
 use Rattle.mc_station.proofs.Order.{and_more, none_more, one_more}
 
 -- ---- status 9 comes before justifications
@@ -88,7 +88,7 @@ apart s t u differ is also = differ (sym is ∙ also)
 before_refusal : (s : Stage) (f : File) (bytes : List ℕ) (r : Reply) → file_of s ≡ Some f → Judges s bytes (Err r) → r.status ≡ status.TooLarge → before s ≡ request_of f ∷ []
 before_refusal stages.usage f bytes r is judges large = absurd judges
 before_refusal (stages.source name action) f bytes r is (inl judges) large =
-    absurd (apart r.status status.SourceRefused status.TooLarge (λ e. cc e) (of_source bytes r judges) large)
+    absurd (apart r.status status.SourceRefused status.TooLarge (λ e. cc e) (of_source_of action bytes r judges) large)
 before_refusal (stages.source name action) f bytes r is (inr (accepted, judges, next)) large = absurd (cc next)
 before_refusal (stages.writes text accepted) f bytes r is judges large = absurd judges
 before_refusal (stages.tests run accepted) f bytes r is judges large =
