@@ -27,7 +27,7 @@ impl Model for ListProbe {
 }
 
 impl ListProbe {
-    /// No hit, and room for so many.
+    /// No hit, and room for this number of hits.
     pub fn new(alloc: Global, room: u32) -> Result<ListProbe, AllocError>
         ensures { IfOk result (λ p. p ≡ record { hits = []; room = room }) }
     {

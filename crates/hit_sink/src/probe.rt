@@ -1,4 +1,4 @@
-//! Probes.
+//! What is told each bit that a run hits.
 ghost use Rattle.std.specs.Prelude.{ℕ, ◌≡◌, ◌<◌, List, [], ◌∷◌, ◌++◌};
 
 /// Is told each bit that is hit, in order. `bits` is how many bits there are, and `leads` says by

@@ -1,4 +1,4 @@
--- Registers.
+-- What the register of a decision or a `switch` holds while it is evaluated.
 use Rattle.std.specs.Prelude.{ℕ, ◌+◌, ◌%◌, ◌^◌, Bool, true, false, List, [], slice_get, slice_set, unwrap_or, Option, Some, None}
 use Rattle.mc_stack.specs.Rooms.{Room, with_values}
 use Rattle.interp_steps.specs.Hits.{hits_of}

@@ -280,7 +280,8 @@ module _ (skipped : List ℕ) (files : Option Files) where
       let later : Leads skipped files (after_source action accepted) asked r all = subst (λ (s : Stage). Leads skipped files s asked r all) stage leads in
       let went : Accepts (after_source action accepted) asked all r =
       went_on (after_source action accepted) asked all r p q (b ++ y ∷ []) [] refl (two_left b x y p q (requests_of action) (ap request_of (sym same)) two) later in
-      second_fits action accepted name reasons asked all r is (few_bits bytes accepted (source_of action bytes accepted judges)) (bytes, held, judges) went
+      let (source, judged) = source_of action bytes accepted judges in
+      second_fits action accepted name reasons asked all r is (few_bits source accepted judged) (bytes, held, judges) went
 
   pub fits : (name reasons : List ℕ) (action : Action) (b : List Request) (r : Reply) → reasons_in action ≡ Some reasons
       → Leads skipped files (stages.source name action) (Some b) r (Some (b ++ requests_left (stages.source name action))) → InLimit name action

@@ -1,11 +1,12 @@
 -- No two obligations of a map are one.
-use Rattle.std.proofs.Common.{◌≡◌, ◌≢◌, ℕ, ◌+◌, ◌<◌, ◌≤◌, ◌^◌, true, false, List, [], ◌∷◌, ◌++◌, length, refl, ap, arith}
+use Rattle.std.proofs.Common.{◌≡◌, ◌≢◌, ℕ, ◌+◌, ◌<◌, ◌≤◌, ◌^◌, true, false, List, [], ◌∷◌, ◌++◌, length, refl, sym, ap, subst, arith}
 use Rattle.std.specs.Prelude.{zero, suc, All, AllPairs, get_or}
 use Rattle.std.proofs.lemmas.List.Kept.{AllPairs-cons}
 use Rattle.mc_limits.specs.Limits.{most_bits}
 use Rattle.mc_span.specs.declared.span.Span.{Span}
+use Rattle.mc_cond.specs.Tree.{size}
 use Rattle.decide_rules.specs.Decisions.{Decision}
-use Rattle.mc_probe.specs.Maps.{Map, Mapped, IsMap, ArePlaced, IsPlaced}
+use Rattle.mc_probe.specs.Maps.{Map, Mapped, IsMap, ArePlaced, IsPlaced, first_path}
 use Rattle.mc_oblige.specs.Ids.{id_text}
 use Rattle.mc_oblige.specs.Obligations.{numbered, of_places, of_decision, of_decisions, obligations_of}
 use Rattle.mc_oblige.specs.declared.obligation.Obligation.{Obligation}

@@ -1,3 +1,4 @@
 pub mod Reading
 pub mod Apart
 pub mod Counting
+pub mod Settled

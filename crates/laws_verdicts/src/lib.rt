@@ -3,4 +3,7 @@
 
 mod laws;
 
-pub use laws::{counts_add_up, failures_are_told, names_are_apart, one_event_is_no_pair};
+pub use laws::{
+    counts_add_up, failures_are_told, kinds_add_up, names_are_apart, one_event_is_no_pair,
+    status_is_counted,
+};

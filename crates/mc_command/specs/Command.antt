@@ -16,6 +16,14 @@ pub data Telling : Type 0 where
   listing : Telling
   -- `functions`: how many are met in each function, of one file of the source or of all of it
   functions : (of : Option (List ℕ)) → Telling
+  -- `needs`: which vectors would show the missing ones, of one file or of all of it
+  needs : (of : Option (List ℕ)) → Telling
+
+-- the file of the source of whose obligations alone it is told, where one is named
+abbrev pub file_told : Telling → Option (List ℕ)
+file_told (functions of) = of
+file_told (needs of) = of
+file_told telling = None
 
 -- how obligations are judged: what shows the independence of a condition, and the file of
 -- justifications; and what is told of them then
@@ -26,7 +34,7 @@ pub record Judging : Type 0 where
 
 -- what is written of the matrix of what the tests evaluated, once all of them have run
 pub data MatrixTask : Type 0 where
-  -- `report`, `list`, `functions`: the verdicts on the obligations
+  -- `report`, `list`, `functions`, `needs`: the verdicts on the obligations
   judged : Judging → MatrixTask
   -- `vectors`: the evaluated vectors of each decision
   vectors : MatrixTask
@@ -42,6 +50,8 @@ pub data Task : Type 0 where
   watched : (looks : ℕ) → Task
   -- `mutate`: which changes of the decisions the tests notice
   mutated : Task
+  -- `results`: what each call of the tests did
+  traced : Task
 
 -- a run of the tests: the name of their file, how many workers share them, the fuel of each, and
 -- what they are run for
@@ -55,6 +65,8 @@ pub record Run : Type 0 where
 pub data SourceText : Type 0 where
   -- `instrument`: the program with its probes
   instrumented : SourceText
+  -- `adapt`: the source itself, which is made of a preprocessed text
+  adapted : SourceText
 
 -- what is done with a source
 pub data Action : Type 0 where
@@ -70,7 +82,7 @@ pub data Action : Type 0 where
 pub data Command : Type 0 where
   -- a command on a source, which has this name
   on_source : (source : List ℕ) → Action → Command
-  -- `selfload`: the program makes a source of so many functions and its tests, so many workers run
+  -- `selfload`: the program makes a source of `count` functions and its tests, the workers run
   -- them, and it sums up
   selfload : (count workers : ℕ) → Command
 
@@ -86,28 +98,45 @@ abbrev pub judging_in : Telling → List Row → Option Judging
 judging_in telling values =
     judging_with telling (mode_in values) (first_of (codes "justify") values)
 
+-- a report in the form that is asked for: `[--format F]`
+abbrev pub form_told_in : List Row → Option Telling
+form_told_in values = option_map report (form_in values)
+
 -- `[--mode M] [--justify NAME] [--format F]`
 abbrev pub report_in : List Row → Option Judging
-report_in values = option_and_then (λ form. judging_in (report form) values) (form_in values)
+report_in values =
+    option_and_then (λ telling. judging_in telling values) (form_told_in values)
 
--- `[--mode M] [--justify NAME] [--of NAME]`
-abbrev pub functions_in : List Row → Option Judging
-functions_in values = judging_in (functions (first_of (codes "of") values)) values
+-- the name after `--of`
+abbrev pub of_in : List Row → Option Text
+of_in values = first_of (codes "of") values
+
+-- what a command tells of judged obligations, once it has run the tests
+abbrev pub telling_in : (name : Text) → List Row → Option Telling
+telling_in name values =
+    if bytes_eq name (codes "report") then form_told_in values
+    else if bytes_eq name (codes "list") then Some listing
+    else if bytes_eq name (codes "functions") then Some (functions (of_in values))
+    else if bytes_eq name (codes "needs") then Some (needs (of_in values))
+    else None
+
+-- a command that runs the tests and judges the obligations
+abbrev pub judged_in : (name : Text) → List Row → Option Judging
+judged_in name values =
+    option_and_then (λ telling. judging_in telling values) (telling_in name values)
 
 abbrev pub matrix_task_in : (name : Text) → List Row → Option MatrixTask
 matrix_task_in name values =
-    if bytes_eq name (codes "report") then option_map judged (report_in values)
-    else if bytes_eq name (codes "vectors") then Some vectors
+    if bytes_eq name (codes "vectors") then Some vectors
     else if bytes_eq name (codes "record") then Some recorded
     else if bytes_eq name (codes "reduce") then option_map reduced (mode_in values)
-    else if bytes_eq name (codes "list") then option_map judged (judging_in listing values)
-    else if bytes_eq name (codes "functions") then option_map judged (functions_in values)
-    else None
+    else option_map judged (judged_in name values)
 
 abbrev pub task_in : (name : Text) → List Row → Option Task
 task_in name values =
     if bytes_eq name (codes "watch") then option_map watched (looks_in values)
     else if bytes_eq name (codes "mutate") then Some mutated
+    else if bytes_eq name (codes "results") then Some traced
     else option_map on_matrix (matrix_task_in name values)
 
 -- a watcher stands beside the workers of a run that is watched
@@ -152,6 +181,7 @@ action_in name values =
     if bytes_eq name (codes "merge") then merge_in values
     else if bytes_eq name (codes "analyse") then analyse_in values
     else if bytes_eq name (codes "instrument") then Some (write instrumented)
+    else if bytes_eq name (codes "adapt") then Some (write adapted)
     else run_action_in name values
 
 abbrev pub on_source_with : Option Text → Option Action → Option Command

@@ -1,7 +1,7 @@
 -- What clauses see of commands.
 use Rattle.std.specs.Prelude.{◌≤◌, ℕ, ⊤, option_map}
 use Rattle.mc_limits.specs.Limits.{most_fuel, most_functions, most_looks, most_workers}
-use Rattle.mc_command.specs.Command.{Action, Command, Judging, MatrixTask, Run, SourceText, Task, Telling, analyse, functions, instrumented, judged, listing, merge, mutated, on_matrix, on_source, recorded, reduced, report, run, selfload, vectors, watched, write}
+use Rattle.mc_command.specs.Command.{Action, Command, Judging, MatrixTask, Run, SourceText, Task, Telling, adapted, analyse, functions, instrumented, judged, listing, merge, mutated, needs, on_matrix, on_source, recorded, reduced, report, run, selfload, traced, vectors, watched, write}
 use Rattle.mc_command.specs.Values.{most_watched_workers}
 use Rattle.mc_command.specs.declared.action.Action.{Action as ActionGiven}
 use Rattle.mc_command.specs.declared.action.Action.TheVariants as action
@@ -22,6 +22,7 @@ abbrev pub seen_telling : TellingGiven → Telling
 seen_telling (telling.Report form) = report form
 seen_telling telling.Listing = listing
 seen_telling (telling.Functions of) = functions (option_map (λ name. name.now) of)
+seen_telling (telling.Needs of) = needs (option_map (λ name. name.now) of)
 
 abbrev pub seen_judging : JudgingGiven → Judging
 seen_judging j = record {
@@ -40,6 +41,7 @@ abbrev pub seen_task : TaskGiven → Task
 seen_task (task.OnMatrix t) = on_matrix (seen_matrix_task t)
 seen_task (task.Watch looks) = watched looks
 seen_task task.Mutate = mutated
+seen_task task.Trace = traced
 
 abbrev pub seen_run : RunGiven → Run
 seen_run r =
@@ -47,6 +49,7 @@ seen_run r =
 
 abbrev pub seen_source_text : SourceTextGiven → SourceText
 seen_source_text source_text.Instrumented = instrumented
+seen_source_text source_text.Adapted = adapted
 
 abbrev pub seen_action : ActionGiven → Action
 seen_action (action.Run r) = run (seen_run r)

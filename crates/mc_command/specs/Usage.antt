@@ -61,15 +61,15 @@ list_app =
     with_rules (run_app (codes "list"))
     (option_rule (codes "mode") ∷ option_rule (codes "justify") ∷ [])
 
--- `functions SOURCE TESTS [--workers N] [--fuel N] [--mode M] [--justify NAME] [--of NAME]`
-abbrev pub functions_app : App
-functions_app =
-    with_rules (run_app (codes "functions"))
+-- `NAME SOURCE TESTS [--workers N] [--fuel N] [--mode M] [--justify NAME] [--of NAME]`
+abbrev pub part_app : Text → App
+part_app name =
+    with_rules (run_app name)
     (option_rule (codes "mode") ∷ option_rule (codes "justify") ∷ option_rule (codes "of") ∷ [])
 
--- `instrument SOURCE`
-abbrev pub instrument_app : App
-instrument_app = with_rule (new_app (codes "instrument")) (positional_rule (codes "source"))
+-- `NAME SOURCE`
+abbrev pub source_app : Text → App
+source_app name = with_rule (new_app name) (positional_rule (codes "source"))
 
 -- `merge SOURCE LEFT RIGHT`
 abbrev pub merge_app : App
@@ -95,8 +95,8 @@ with_run_commands line =
     (with_subcommand (with_subcommand line report_app.top) (run_app (codes "vectors")).top)
     (run_app (codes "record")).top
 
--- the commands that run the tests of a source to look at them, to choose among them, and to try them
--- on its mutants
+-- the commands that run the tests of a source to look at them, to choose among them, and to try
+-- them on its mutants
 abbrev pub with_tester_commands : App → App
 with_tester_commands line =
     with_subcommand (with_subcommand (with_subcommand line watch_app.top) reduce_app.top)
@@ -110,15 +110,25 @@ with_record_commands line =
 -- the commands that write a source out, and the one on a source that the program makes itself
 abbrev pub with_other_commands : App → App
 with_other_commands line =
-    with_subcommand (with_subcommand (with_subcommand line list_app.top) instrument_app.top)
+    with_subcommand
+    (with_subcommand (with_subcommand line list_app.top) (source_app (codes "instrument")).top)
     selfload_app.top
 
 -- the commands that help to close a report
 abbrev pub with_closing_commands : App → App
-with_closing_commands line = with_subcommand line functions_app.top
+with_closing_commands line =
+    with_subcommand
+    (with_subcommand (with_subcommand line (part_app (codes "functions")).top)
+    (part_app (codes "needs")).top)
+    (run_app (codes "results")).top
+
+-- the command that makes a source of a preprocessed text
+abbrev pub with_making_commands : App → App
+with_making_commands line = with_subcommand line (source_app (codes "adapt")).top
 
 abbrev pub line_app : App
 line_app =
-    with_closing_commands
+    with_making_commands
+    (with_closing_commands
     (with_other_commands
-    (with_record_commands (with_tester_commands (with_run_commands (new_app (codes "mcdc"))))))
+    (with_record_commands (with_tester_commands (with_run_commands (new_app (codes "mcdc")))))))

@@ -16,7 +16,7 @@ use clap::ArgMatches;
 pub enum Action<'w> {
     /// Its tests are run: `report`, `vectors`, `record`, `watch`, `reduce`, `mutate`, `list`
     Run(Run<'w>),
-    /// A text that is made of the source alone is written: `instrument`
+    /// A text that is made of the source alone is written: `instrument`, `adapt`
     Write(SourceText),
     /// Two records of its tests are joined: `merge`
     Merge {
@@ -75,6 +75,7 @@ pub fn read_action<'w>(name: &str, values: &ArgMatches<'w>) -> Option<Action<'w>
         "merge" => read_merge(values),
         "analyse" => read_analyse(values),
         "instrument" => Some(Action::Write(SourceText::Instrumented)),
+        "adapt" => Some(Action::Write(SourceText::Adapted)),
         _ => read_run_action(name, values),
     }
 }

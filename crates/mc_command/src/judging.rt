@@ -1,11 +1,11 @@
 //! How obligations are judged.
 ghost use Rattle.std.specs.Prelude.{◌≡◌, option_map};
 ghost use Rattle.clap.specs.Words.{found_of, rows_of};
-ghost use Rattle.mc_command.specs.Command.{functions_in, judging_in, report_in};
+ghost use Rattle.mc_command.specs.Command.{judged_in, judging_in, report_in};
 ghost use Rattle.mc_command.specs.Seen.{seen_judging, seen_telling};
 
-use crate::options::{read_form, read_mode};
-use crate::telling::Telling;
+use crate::options::read_mode;
+use crate::telling::{Telling, read_form_told, read_telling};
 use crate::values::text_at;
 use clap::ArgMatches;
 use report_options::Mode;
@@ -22,7 +22,7 @@ pub struct Judging<'w> {
 }
 
 /// What is told of obligations that are judged as the options say: `[--mode M] [--justify NAME]`
-pub fn read_judging<'w>(values: &ArgMatches<'w>, telling: Telling<'w>) -> Option<Judging<'w>>
+fn read_judging<'w>(values: &ArgMatches<'w>, telling: Telling<'w>) -> Option<Judging<'w>>
     ensures { option_map seen_judging result
         ≡ judging_in (seen_telling telling.entry) (rows_of (found_of values.now)) }
 {
@@ -35,19 +35,19 @@ pub fn read_judging<'w>(values: &ArgMatches<'w>, telling: Telling<'w>) -> Option
     })
 }
 
-/// What is told of the obligations in one file of the source, or in all of it:
-/// `[--mode M] [--justify NAME] [--of NAME]`
-pub fn read_functions<'w>(values: &ArgMatches<'w>) -> Option<Judging<'w>>
-    ensures { option_map seen_judging result ≡ functions_in (rows_of (found_of values.now)) }
-{
-    let of = text_at(values, "of");
-    read_judging(values, Telling::Functions { of })
-}
-
 /// The report that the options ask for: `[--mode M] [--justify NAME] [--format F]`
 pub fn read_report<'w>(values: &ArgMatches<'w>) -> Option<Judging<'w>>
     ensures { option_map seen_judging result ≡ report_in (rows_of (found_of values.now)) }
 {
-    let form = read_form(values)?;
-    read_judging(values, Telling::Report(form))
+    let telling = read_form_told(values)?;
+    read_judging(values, telling)
+}
+
+/// How the command with this name judges the obligations once it has run the tests.
+pub fn read_judged<'w>(name: &str, values: &ArgMatches<'w>) -> Option<Judging<'w>>
+    ensures { option_map seen_judging result
+        ≡ judged_in name.now (rows_of (found_of values.now)) }
+{
+    let telling = read_telling(name, values)?;
+    read_judging(values, telling)
 }

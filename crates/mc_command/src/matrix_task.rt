@@ -4,16 +4,15 @@ ghost use Rattle.clap.specs.Words.{found_of, rows_of};
 ghost use Rattle.mc_command.specs.Command.{matrix_task_in};
 ghost use Rattle.mc_command.specs.Seen.{seen_matrix_task};
 
-use crate::judging::{Judging, read_functions, read_judging, read_report};
+use crate::judging::{Judging, read_judged};
 use crate::options::read_mode;
-use crate::telling::Telling;
 use clap::ArgMatches;
 use report_options::Mode;
 
 /// What is written of what the tests evaluated, once all of them have run.
 #[derive(Clone, Copy)]
 pub enum MatrixTask<'w> {
-    /// The verdicts on the obligations: `report`, `list`, `functions`
+    /// The verdicts on the obligations: `report`, `list`, `functions`, `needs`
     Judge(Judging<'w>),
     /// The evaluated vectors of each decision: `vectors`
     Vectors,
@@ -32,24 +31,15 @@ pub fn read_matrix_task<'w>(name: &str, values: &ArgMatches<'w>) -> Option<Matri
         ≡ matrix_task_in name.now (rows_of (found_of values.now)) }
 {
     match name {
-        "report" => {
-            let judging = read_report(values)?;
-            Some(MatrixTask::Judge(judging))
-        }
         "vectors" => Some(MatrixTask::Vectors),
         "record" => Some(MatrixTask::Record),
         "reduce" => {
             let mode = read_mode(values)?;
             Some(MatrixTask::Reduce { mode })
         }
-        "list" => {
-            let judging = read_judging(values, Telling::Listing)?;
+        _ => {
+            let judging = read_judged(name, values)?;
             Some(MatrixTask::Judge(judging))
         }
-        "functions" => {
-            let judging = read_functions(values)?;
-            Some(MatrixTask::Judge(judging))
-        }
-        _ => None,
     }
 }

@@ -53,7 +53,7 @@ fn most_workers_of(task: Task<'_>) -> u32
 {
     match task {
         Task::Watch { .. } => MOST_WATCHED_WORKERS,
-        Task::OnMatrix(_) | Task::Mutate => MOST_WORKERS,
+        Task::OnMatrix(_) | Task::Mutate | Task::Trace => MOST_WORKERS,
     }
 }
 

@@ -5,4 +5,6 @@
 pub enum SourceText {
     /// The program with its probes: `instrument`
     Instrumented,
+    /// The source itself, made of a preprocessed text: `adapt`
+    Adapted,
 }

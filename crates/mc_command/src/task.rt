@@ -20,6 +20,8 @@ pub enum Task<'w> {
     },
     /// Which changes of the decisions the tests notice: `mutate`
     Mutate,
+    /// What each of their calls did: `results`
+    Trace,
 }
 
 /// The task of the command with this name. Its number is in range.
@@ -34,6 +36,7 @@ pub fn read_task<'w>(name: &str, values: &ArgMatches<'w>) -> Option<Task<'w>>
             Some(Task::Watch { looks })
         }
         "mutate" => Some(Task::Mutate),
+        "results" => Some(Task::Trace),
         _ => {
             let task = read_matrix_task(name, values)?;
             Some(Task::OnMatrix(task))

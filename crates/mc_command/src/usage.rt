@@ -2,7 +2,7 @@
 ghost use Rattle.std.specs.Prelude.{◌≡◌, IfOk, codes, false};
 ghost use Rattle.clap.specs.declared.builder.command.Command.TheViews.{out-Command as fields_of};
 ghost use Rattle.clap.specs.Words.{app_of, new_app, rule_of};
-ghost use Rattle.mc_command.specs.Usage.{analyse_app, files_app, functions_app, instrument_app, line_app, list_app, merge_app, mutate_app, option_rule, positional_rule, reduce_app, report_app, report_rules, run_app, selfload_app, watch_app, with_closing_commands, with_other_commands, with_record_commands, with_rules, with_run_commands, with_tester_commands};
+ghost use Rattle.mc_command.specs.Usage.{analyse_app, files_app, line_app, list_app, merge_app, mutate_app, option_rule, part_app, positional_rule, reduce_app, report_app, report_rules, run_app, selfload_app, source_app, watch_app, with_closing_commands, with_making_commands, with_other_commands, with_record_commands, with_rules, with_run_commands, with_tester_commands};
 
 use clap::{Arg, Command};
 use std::alloc::{AllocError, Global};
@@ -117,24 +117,60 @@ fn list<'w>(alloc: Global) -> Result<Command<'w>, AllocError>
         .arg(option(alloc, "justify"))
 }
 
-// `functions SOURCE TESTS [--workers N] [--fuel N] [--mode M] [--justify NAME] [--of NAME]`
-fn functions<'w>(alloc: Global) -> Result<Command<'w>, AllocError>
-    ensures app { IfOk result (λ c. app_of c ≡ functions_app) }
+// `NAME SOURCE TESTS [--workers N] [--fuel N] [--mode M] [--justify NAME] [--of NAME]`
+fn on_part<'w>(alloc: Global, name: &'w str) -> Result<Command<'w>, AllocError>
+    ensures app { IfOk result (λ c. app_of c ≡ part_app name.entry.now) }
     ensures local { IfOk result (λ c. (fields_of c).has_globals ≡ false) }
 {
-    let command = run(alloc, "functions")?;
+    let command = run(alloc, name)?;
     command
         .arg(option(alloc, "mode"))?
         .arg(option(alloc, "justify"))?
         .arg(option(alloc, "of"))
 }
 
-// `instrument SOURCE`
-fn instrument<'w>(alloc: Global) -> Result<Command<'w>, AllocError>
-    ensures app { IfOk result (λ c. app_of c ≡ instrument_app) }
+fn functions<'w>(alloc: Global) -> Result<Command<'w>, AllocError>
+    ensures app { IfOk result (λ c. app_of c ≡ part_app (codes "functions")) }
     ensures local { IfOk result (λ c. (fields_of c).has_globals ≡ false) }
 {
-    Command::new(alloc, "instrument").arg(positional(alloc, "source"))
+    on_part(alloc, "functions")
+}
+
+fn needs<'w>(alloc: Global) -> Result<Command<'w>, AllocError>
+    ensures app { IfOk result (λ c. app_of c ≡ part_app (codes "needs")) }
+    ensures local { IfOk result (λ c. (fields_of c).has_globals ≡ false) }
+{
+    on_part(alloc, "needs")
+}
+
+// `results SOURCE TESTS [--workers N] [--fuel N]`
+fn results<'w>(alloc: Global) -> Result<Command<'w>, AllocError>
+    ensures app { IfOk result (λ c. app_of c ≡ run_app (codes "results")) }
+    ensures local { IfOk result (λ c. (fields_of c).has_globals ≡ false) }
+{
+    run(alloc, "results")
+}
+
+// A command on the source alone: `NAME SOURCE`
+fn on_source<'w>(alloc: Global, name: &'w str) -> Result<Command<'w>, AllocError>
+    ensures app { IfOk result (λ c. app_of c ≡ source_app name.entry.now) }
+    ensures local { IfOk result (λ c. (fields_of c).has_globals ≡ false) }
+{
+    Command::new(alloc, name).arg(positional(alloc, "source"))
+}
+
+fn instrument<'w>(alloc: Global) -> Result<Command<'w>, AllocError>
+    ensures app { IfOk result (λ c. app_of c ≡ source_app (codes "instrument")) }
+    ensures local { IfOk result (λ c. (fields_of c).has_globals ≡ false) }
+{
+    on_source(alloc, "instrument")
+}
+
+fn adapt<'w>(alloc: Global) -> Result<Command<'w>, AllocError>
+    ensures app { IfOk result (λ c. app_of c ≡ source_app (codes "adapt")) }
+    ensures local { IfOk result (λ c. (fields_of c).has_globals ≡ false) }
+{
+    on_source(alloc, "adapt")
 }
 
 fn merge<'w>(alloc: Global) -> Result<Command<'w>, AllocError>
@@ -213,7 +249,19 @@ fn with_closing_commands<'w>(alloc: Global, line: Command<'w>) -> Result<Command
     ensures { IfOk result (λ c. app_of c ≡ with_closing_commands (app_of line.entry)) }
 {
     let functions = functions(alloc)?;
-    line.subcommand(functions)
+    let needs = needs(alloc)?;
+    let results = results(alloc)?;
+    line.subcommand(functions)?
+        .subcommand(needs)?
+        .subcommand(results)
+}
+
+// The command that makes a source of a preprocessed text.
+fn with_making_commands<'w>(alloc: Global, line: Command<'w>) -> Result<Command<'w>, AllocError>
+    ensures { IfOk result (λ c. app_of c ≡ with_making_commands (app_of line.entry)) }
+{
+    let adapt = adapt(alloc)?;
+    line.subcommand(adapt)
 }
 
 /// The command line of the program.
@@ -224,5 +272,6 @@ pub fn line_command<'w>(alloc: Global) -> Result<Command<'w>, AllocError>
     let line = with_tester_commands(alloc, line)?;
     let line = with_record_commands(alloc, line)?;
     let line = with_other_commands(alloc, line)?;
-    with_closing_commands(alloc, line)
+    let line = with_closing_commands(alloc, line)?;
+    with_making_commands(alloc, line)
 }

@@ -82,7 +82,7 @@ fn started(alloc: Global, shape: Shape, workers: u32) -> Result<CoreState, Alloc
     })
 }
 
-// So many workers without a claim.
+// This number of workers without a claim.
 fn idle_workers(alloc: Global, count: u32) -> Result<Vec<CoreWorker>, AllocError>
     ensures { IfOk result (λ v. map worker_of v.items ≡ fresh_workers count) }
 {

@@ -18,7 +18,7 @@ keep k s kept = record {
       let few = different k s kept id v at t in
       let less = below_of_once t k.tests (omega arith) in kept_hit k s kept id b t v at in_b (omega arith) live claimed;
   join = λ id v other w at bt is is'. kept_join k s kept id v other w at bt is is';
-  look = λ id v index at live _. kept_look k s kept id v at index live;
+  look = λ id v index at live. kept_look k s kept id v at index live;
 }
 
 pub moves : (k : Shape) (s : Shared) → k.tests < 2 ^ 32 → IsKept k s → IsMove k s

@@ -72,7 +72,7 @@ pub record StepsKeep (k : Shape) (s : Shared) : Type 0 where
   pub join : (id : ℕ) (v : View) (other : ℕ) (w : View) → HasView s id v → HasView s other w →
       v.role ≡ Opener → w.role ≡ Worker → IsKept k (joined s id v other w)
   pub look : (id : ℕ) (v : View) (index : ℕ) → HasView s id v → v.role ≢ Spent →
-      index < word_count k → IsKept k (looked s id v index)
+      IsKept k (looked s id v index)
 
 -- what a fetch_add of 1 writes to word 0
 abbrev pub one_more : Shared → ℕ

@@ -48,7 +48,8 @@ of_kind Conditions r = r.conditions
 abbrev pub total : Counts → ℕ
 total c = c.met + c.justified + c.stale + c.missing
 
--- of all these the part that is met, in whole hundredths, rounded down; what is justified is not met
+-- of all these the part that is met, in whole hundredths, rounded down; what is justified is not
+-- met
 abbrev pub percentage : Counts → ℕ
 percentage c = (c.met * 100) / total c
 

@@ -4,6 +4,7 @@ pub mod Standing
 pub mod Measured
 pub mod Status
 pub mod Text
+pub mod Asked
 pub mod Sums
 pub mod Seen
 pub mod Laws

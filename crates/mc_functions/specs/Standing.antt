@@ -13,8 +13,8 @@ abbrev pub name_places : List Obligation → List ℕ
 name_places [] = []
 name_places (o ∷ os) = if is_entry o.id then o.span.start ∷ name_places os else name_places os
 
--- The place stands in function k: that function's name does not stand after it, and the names of all
--- later functions do. What stands before all names stands in the first function.
+-- The place stands in function k: that function's name does not stand after it, and the names of
+-- all later functions do. What stands before all names stands in the first function.
 pub record StandsIn (names : List ℕ) (k at : ℕ) : Type 0 where
   pub there : k < length names
   pub begun : (slice_index_or names k 0 ≤ at) ⊎ (k ≡ 0)

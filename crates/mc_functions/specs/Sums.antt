@@ -1,4 +1,4 @@
--- Sums.
+-- Sums of terms that have numbers.
 use Rattle.std.specs.Prelude.{ℕ, zero, suc, ◌+◌}
 
 -- of the terms whose numbers are below n

@@ -1,5 +1,5 @@
 //! Functions, by the places of their names.
-ghost use Rattle.std.specs.Prelude.{◌≡◌, IfOk, length};
+ghost use Rattle.std.specs.Prelude.{◌≡◌, IfOk};
 ghost use Rattle.mc_functions.specs.Standing.{function_of, is_entry, name_places};
 
 use mc_oblige::{Obligation, ObligationId};

@@ -1,6 +1,7 @@
 //! The counts of a program's obligations by function.
 #![tactic(auto)]
 
+mod asking;
 mod counts;
 mod functions;
 mod kind;
@@ -13,6 +14,7 @@ mod row;
 mod status;
 mod table;
 
+pub use asking::{asked, push_needs_sums};
 pub use laws::{full_is_all_met, functions_are_all, stands_in_one};
 pub use lines::function_lines;
 pub use measured::Measured;

@@ -157,7 +157,7 @@ fn push_sums(alloc: Global, line: &mut Vec<u8>, counts: Counts) -> Result<(), Al
     line.extend_from_slice(text.as_bytes())
 }
 
-fn push_others(
+pub(crate) fn push_others(
     alloc: Global,
     line: &mut Vec<u8>,
     file: Option<&[u8]>,
@@ -189,7 +189,7 @@ fn all_line(alloc: Global, measured: &Measured<'_>) -> Result<Vec<u8>, AllocErro
     Ok(line)
 }
 
-fn status_line(alloc: Global, measured: &Measured<'_>) -> Result<Vec<u8>, AllocError>
+pub(crate) fn status_line(alloc: Global, measured: &Measured<'_>) -> Result<Vec<u8>, AllocError>
     requires { let m = measured_of measured.now in length m.verdicts ≡ length m.obligations }
     ensures { IfOk result (λ line.
         line.items ≡ status_line (status_of (measured_of measured.now))) }

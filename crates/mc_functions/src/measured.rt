@@ -20,7 +20,7 @@ pub struct Measured<'a> {
     pub file: Option<&'a [u8]>,
 }
 
-fn is_verdict(one: VerdictState, other: VerdictState) -> bool
+pub(crate) fn is_verdict(one: VerdictState, other: VerdictState) -> bool
     ensures { result ≡ is_verdict one other }
 {
     match (one, other) {

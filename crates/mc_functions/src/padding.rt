@@ -1,4 +1,4 @@
-//! Texts in so many places.
+//! Texts that are padded to a number of places.
 ghost use Rattle.std.specs.Prelude.{◌≡◌, ◌++◌, OnOk, replicate};
 ghost use Rattle.mc_functions.specs.Text.{left_in, right_in};
 
@@ -15,7 +15,7 @@ fn push_spaces(line: &mut Vec<u8>, count: usize) -> Result<(), AllocError>
     Ok(())
 }
 
-/// Adds the text right in so many places; a longer one takes more.
+/// Adds the text right in this number of places; a longer one takes more.
 pub(crate) fn push_right(line: &mut Vec<u8>, places: usize, text: &str) -> Result<(), AllocError>
     ensures { OnOk result (line.new.items ≡ line.old.items ++ right_in places text.now) }
 {
@@ -23,7 +23,7 @@ pub(crate) fn push_right(line: &mut Vec<u8>, places: usize, text: &str) -> Resul
     line.extend_from_slice(text.as_bytes())
 }
 
-/// Adds the text left in so many places; a longer one takes more.
+/// Adds the text left in this number of places; a longer one takes more.
 pub(crate) fn push_left(line: &mut Vec<u8>, places: usize, text: &str) -> Result<(), AllocError>
     ensures { OnOk result (line.new.items ≡ line.old.items ++ left_in places text.now) }
 {

@@ -1,5 +1,5 @@
 //! The counts of each function.
-ghost use Rattle.std.specs.Prelude.{◌≡◌, ◌+◌, ◌<◌, ◌≤◌, ◌^◌, ℕ, length, slice_index_or, IfOk};
+ghost use Rattle.std.specs.Prelude.{◌≡◌, ◌+◌, ◌<◌, ◌^◌, ℕ, length, slice_index_or, IfOk};
 ghost use Rattle.mc_functions.specs.Counts.{of_kind, of_verdict};
 ghost use Rattle.mc_functions.specs.Measured.{names_of};
 ghost use Rattle.mc_functions.specs.Seen.{measured_of};

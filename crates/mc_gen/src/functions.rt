@@ -1,4 +1,4 @@
-//! The source.
+//! The source that is generated: its functions, each in a line.
 ghost use Rattle.std.specs.Prelude.{◌≡◌, ◌≤◌, IfOk, string_bytes};
 ghost use Rattle.mc_limits.specs.Limits.{most_functions};
 ghost use Rattle.mc_gen.specs.Source.{condition_of, function_line, source_text};

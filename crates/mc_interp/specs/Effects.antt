@@ -45,7 +45,7 @@ appends v s =
 
 -- ---- initializers
 
--- so many cells of the row from a place on
+-- this number of cells of the row, from a place on
 abbrev pub IsBlock : Scope → Activation → ℕ → ℕ → Type 0
 IsBlock c w at n = (types : List IntType) → AreTyped c w types → at + n ≤ length types
 

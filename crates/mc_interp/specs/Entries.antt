@@ -34,7 +34,7 @@ use Rattle.mc_interp.specs.Bodies.{body_of}
 
 -- ---- the entry
 
--- with so many more cells, all unset
+-- with this number of cells more, all unset
 abbrev pub grown : ℕ → State Flat → State Flat
 grown n s = record s {
   memory = record {

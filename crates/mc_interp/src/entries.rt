@@ -28,7 +28,7 @@ use arrayvec::ArrayVec;
 use mc_limits::MOST_LEVELS;
 use mc_typed::{Ending, Object};
 
-/// The levels of the open activations with so many more.
+/// The levels of the open activations with this number more.
 pub(crate) fn levels_with(held: u32, more: u32) -> u32
     ensures test { (n : ℕ) → limited n ≡ more → nat_le result most_levels
         ≡ nat_le (held + n) most_levels }

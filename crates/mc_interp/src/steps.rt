@@ -172,7 +172,7 @@ impl Store {
         Some(())
     }
 
-    /// An object of so many cells is copied from one place to another.
+    /// An object of this number of cells is copied from one place to another.
     pub(crate) fn copy(&mut self, from: u32, to: u32, count: u32)
         requires source { from + count ≤ length self.old.cells.cells }
         requires target { to + count ≤ length self.old.cells.cells }

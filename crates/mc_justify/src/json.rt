@@ -1,4 +1,4 @@
-//! JSON text.
+//! How bytes are read as JSON.
 ghost use Rattle.std.specs.Prelude.{◌≡◌, IfOk, option_map};
 ghost use Rattle.serde_json.specs.View.{view};
 ghost use Rattle.mc_justify.specs.Justifications.{json_of};

@@ -1,4 +1,4 @@
--- Comments.
+-- Where a comment closes, as the scan finds it.
 use Rattle.std.proofs.Common.{◌≡◌, ℕ, suc, ◌+◌, ◌≤◌, Bool, true, false, ◌&&◌, cond, nat_eq, List, [], ◌∷◌, ◌++◌, length, Option, Some, None, refl, ap, subst, sym, ◌∙◌, arith}
 use Rattle.mc_lex.specs.Gaps.{ClosesComment}
 use Rattle.mc_lex.specs.steps.Scanner.{close_from, close_len}

@@ -1,4 +1,4 @@
-//! Character constants.
+//! How character constants are read (C17 6.4.4.4).
 ghost use Rattle.std.specs.Prelude.{◌≡◌, ◌+◌, ◌≤◌, ◌<◌, ◌^◌, length, IfSome};
 ghost use Rattle.mc_lex.specs.Characters as characters;
 ghost use Rattle.mc_lex.specs.steps.Scanner as spec;

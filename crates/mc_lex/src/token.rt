@@ -1,4 +1,4 @@
-//! Tokens.
+//! What a token is, and its kinds (C17 6.4).
 
 /// The words that a source may use.
 #[derive(Clone, Copy, Debug, PartialEq, Eq)]

@@ -1,4 +1,4 @@
--- Masking pairs.
+-- Pairs by masking: what the search finds is what the definition names.
 use Rattle.std.proofs.Common.{◌≡◌, ◌≢◌, ℕ, ◌<◌, ◌≤◌, Bool, true, false, not, Some, List, arith, refl, sym, ap, subst, ◌∙◌, inl, inr, ◌⊎◌}
 use mathlib.Core.Bool.{beq}
 use Rattle.std.specs.Prelude.{◌↔◌, IsTrue, slice_get, Contains}

@@ -1,4 +1,4 @@
--- Masking pairs.
+-- When two vectors show a condition's independence by masking.
 use Rattle.std.specs.Prelude.{◌≢◌, ℕ}
 use Rattle.mc_cond.specs.Tree.{Tree}
 use Rattle.mc_cond.specs.Vectors.{Row, Evaluation, IsCompletion}

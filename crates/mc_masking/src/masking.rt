@@ -1,4 +1,4 @@
-//! Masking pairs.
+//! The pair that shows a condition's independence by masking.
 
 ghost use Rattle.std.specs.Prelude.{◌≡◌, ◌<◌, All, IfSome, IfNone};
 ghost use Rattle.std.specs.List.Sorted.{IsStrictlyIncreasing};

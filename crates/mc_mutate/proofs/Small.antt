@@ -25,7 +25,7 @@ use Rattle.mc_mutate.specs.steps.Search.{pass, passed, past_three, in_nodes, in_
 use Rattle.mc_mutate.proofs.Past.{passes, IsSought, is_sought}
 use Rattle.mc_mutate.proofs.Listed.{mutants_found}
 
--- a search goes past at most so many mutants
+-- a search goes past at most this number of mutants
 abbrev AtMost : (Sought → Sought) → ℕ → Type 0
 AtMost f k = (l : ℕ) → k ≤ l → (m : ℕ) × (f (sought.Left l) ≡ sought.Left m) × (l ≤ m + k)
 

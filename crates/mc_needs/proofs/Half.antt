@@ -6,10 +6,11 @@ use Rattle.mc_paths.specs.Paths.{count_of}
 use Rattle.mc_pairs.specs.Pairs.{NonePaired, IsChosen}
 use Rattle.report_options.specs.declared.mode.Mode.{Mode}
 use Rattle.mc_oblige.specs.Evidence.{pairs_of}
-use Rattle.mc_needs.specs.Needs.{IsUnpaired, IsLeastPair, IsHalfKnown, NeedsOne, IsMarked}
+use Rattle.mc_needs.specs.Needs.{IsUnpaired, IsLeastPair, IsHalfKnown, NeedsOne}
+use Rattle.mc_needs.specs.steps.Marks.{IsMarked}
 use Rattle.mc_needs.specs.steps.Among.{AreAmong, IsMember}
 use Rattle.mc_needs.specs.steps.Pairing.{lesser_of, IsLeastIfAny}
-use Rattle.mc_needs.proofs.Pairs.{FirstKnown, SecondKnown, by_first, none_first, by_second, none_second}
+use Rattle.mc_needs.proofs.Pairs.{below_first, below_second, any_order, FirstKnown, SecondKnown, by_first, none_first, by_second, none_second}
 use Rattle.mc_needs.proofs.Lesser.{lesser}
 
 module _ (mode : Mode) (t : Tree) (k : ℕ) (n : IsNumbered t) (marks : List Bool) (base : ℕ) where
@@ -26,6 +27,10 @@ module _ (mode : Mode) (t : Tree) (k : ℕ) (n : IsNumbered t) (marks : List Boo
   second_if : (paths : List ℕ) → AreAmong (IsMember t marks base k true) (count_of t) paths → (o : Option (ℕ × ℕ)) → Chosen paths o → IsLeastIfAny (SecondKnown mode t k n marks base) o
   second_if paths list None h = none_second mode t k n marks base paths list h.1
   second_if paths list (Some pair) h = by_second mode t k n marks base paths list pair.0 pair.1 h.0
+
+  pub marked_unpaired : (paths : List ℕ) → AreAmong (IsMarked marks base) (count_of t) paths → NonePaired (pairs_of mode t k) t paths → IsUnpaired mode t k (IsMarked marks base)
+  marked_unpaired paths list none p q a b pair =
+      none p q ((list.each p).1 (below_first mode t k p q pair, a)) ((list.each q).1 (below_second mode t k p q pair, b)) (any_order mode t k p q pair)
 
   pub half_of : (missing : IsUnpaired mode t k (IsMarked marks base)) (xs ys : List ℕ) → AreAmong (IsMember t marks base k false) (count_of t) xs → AreAmong (IsMember t marks base k true) (count_of t) ys
       → (one other : Option (ℕ × ℕ)) → Chosen xs one → Chosen ys other → IsLeastIfAny Half (lesser_of one other)

@@ -5,3 +5,14 @@ pub mod Pairs
 pub mod Lesser
 pub mod Half
 pub mod Trees
+pub mod Proper
+pub mod Bases
+pub mod Moved
+pub mod Alike
+pub mod One
+pub mod Listed
+pub mod Marking
+pub mod Opening
+pub mod Start
+pub mod Needing
+pub mod Reading

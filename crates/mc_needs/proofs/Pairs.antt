@@ -12,7 +12,8 @@ use Rattle.mc_masking.proofs.Pairs as masking
 use Rattle.report_options.specs.declared.mode.Mode.{Mode}
 use Rattle.report_options.specs.declared.mode.Mode.TheVariants.{Unique, Masking}
 use Rattle.mc_oblige.specs.Evidence.{pairs_of}
-use Rattle.mc_needs.specs.Needs.{IsPairFor, IsLeastPair, IsMarked}
+use Rattle.mc_needs.specs.Needs.{IsPairFor, IsLeastPair}
+use Rattle.mc_needs.specs.steps.Marks.{IsMarked}
 use Rattle.mc_needs.specs.steps.Among.{AreAmong, IsAny, IsMember}
 use Rattle.mc_needs.proofs.Having.{has_pair}
 
@@ -39,10 +40,10 @@ not_both t k p on off =
 pub any_order : (mode : Mode) (t : Tree) (k p q : ℕ) → IsPairFor mode t k p q → ArePaired (pairs_of mode t k) t p q
 any_order mode t k p q h = record { v = h.v; w = h.w; first_path = h.first_path; second_path = h.second_path; shown = h.shown.2 }
 
-below_first : (mode : Mode) (t : Tree) (k p q : ℕ) → IsPairFor mode t k p q → p < count_of t
+pub below_first : (mode : Mode) (t : Tree) (k p q : ℕ) → IsPairFor mode t k p q → p < count_of t
 below_first mode t k p q h = in_use_below t p (h.v, h.first_path)
 
-below_second : (mode : Mode) (t : Tree) (k p q : ℕ) → IsPairFor mode t k p q → q < count_of t
+pub below_second : (mode : Mode) (t : Tree) (k p q : ℕ) → IsPairFor mode t k p q → q < count_of t
 below_second mode t k p q h = in_use_below t q (h.w, h.second_path)
 
 module _ (mode : Mode) (t : Tree) (k : ℕ) (n : IsNumbered t) where

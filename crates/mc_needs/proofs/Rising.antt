@@ -7,7 +7,7 @@ use Rattle.std.proofs.lemmas.List.{get_or_append_left, get_or_push, length_push}
 use Rattle.std.proofs.lemmas.List.Elements.{Contains-push, Contains-push_cases, Contains-append_left, All-push}
 use Rattle.mc_needs.specs.steps.Among.{AreAmong}
 
-next : (p n : ℕ) → p < n + 1 → (p < n) ⊎ (p ≡ n)
+pub next : (p n : ℕ) → p < n + 1 → (p < n) ⊎ (p ≡ n)
 next p n h = elim (cases_lt p n) [ inl less ↦ inl less | inr more ↦ inr (omega (arith, h, more)) ]
 
 rises : (xs : List ℕ) (y : ℕ) → IsStrictlyIncreasing xs → All (λ p. p < y) xs → IsStrictlyIncreasing (xs ++ y ∷ [])

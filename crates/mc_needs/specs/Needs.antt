@@ -1,14 +1,18 @@
--- What an outcome or a condition of a decision needs, where it is not shown: vectors of the decision.
--- They are told by the numbers of their paths, whose order is that of vectors.
-use Rattle.std.specs.Prelude.{◌≡◌, ℕ, ◌+◌, ◌<◌, ◌≤◌, ◌⊎◌, Bool, true, false, List, get_or}
+-- What an outcome or a condition of a decision needs, where it is not shown: vectors of the
+-- decision. They are told by the numbers of their paths, whose order is that of vectors.
+use Rattle.std.specs.Prelude.{◌≡◌, ℕ, ◌<◌, ◌≤◌, ◌⊎◌, Bool, Option, Some, None, slice_get}
 use Rattle.mc_cond.specs.Tree.{Tree}
 use Rattle.mc_cond.specs.Vectors.{Evaluation}
 use Rattle.mc_paths.specs.Paths.{IsPath}
 use Rattle.mc_pairs.specs.Pairs.{ArePaired, turned}
+use Rattle.mc_steps.specs.Events.{Event}
+use Rattle.mc_probe.specs.Maps.{Mapped, Map}
 use Rattle.report_options.specs.declared.mode.Mode.{Mode}
-use Rattle.mc_oblige.specs.Evidence.{pairs_of}
-use Rattle.mc_needs.specs.declared.pairing.Pairing.{Pairing}
-use Rattle.mc_needs.specs.declared.pairing.Pairing.TheVariants.{Beside, Both}
+use Rattle.mc_oblige.specs.declared.obligation.ObligationId.{ObligationId}
+use Rattle.mc_oblige.specs.declared.obligation.ObligationId.TheVariants.{Outcome, Condition}
+use Rattle.mc_oblige.specs.Evidence.{IsLeast, IsEvaluated, pairs_of}
+use Rattle.needed_paths.specs.declared.need.Need.{Need}
+use Rattle.needed_paths.specs.declared.need.Need.TheVariants.{Vector, Beside, Both}
 
 -- the path has a vector with this outcome
 pub record Gives (t : Tree) (outcome : Bool) (path : ℕ) : Type 0 where
@@ -48,13 +52,35 @@ module _ (mode : Mode) (t : Tree) (k : ℕ) (known : ℕ → Type 0) where
     pub none : (p q : ℕ) → ¬ IsHalfKnown p q
     pub least : IsLeastPair (IsPairFor mode t k) first second
 
--- ---- by marks
+-- ---- by what is evaluated: `stands` says which events stand under which tests
 
--- A mark stands at each bit that is known. The bits of a decision's paths begin at its base.
-abbrev pub IsMarked : List Bool → ℕ → ℕ → Type 0
-IsMarked marks base path = get_or marks (base + path) false ≡ true
+-- the decision is evaluated with the vector of this path, under some test
+pub record IsSeen (stands : Event → ℕ → Type 0) (m : Map) (d path : ℕ) : Type 0 where
+  pub mapped : Mapped
+  pub known : slice_get m.decisions d ≡ Some mapped
+  pub test : ℕ
+  pub under : IsEvaluated stands d mapped.decision.tree path test
 
--- what condition k needs
-abbrev pub IsPairing : Mode → Tree → ℕ → (ℕ → Type 0) → Pairing → Type 0
-IsPairing mode t k known (Beside path partner) = NeedsOne mode t k known path partner
-IsPairing mode t k known (Both first second) = NeedsTwo mode t k known first second
+module _ (stands : Event → ℕ → Type 0) (m : Map) (mode : Mode) where
+  -- an outcome needs the least vector with it
+  abbrev pub IsOutcomeNeed : Bool → Option Mapped → Need → Type 0
+  IsOutcomeNeed outcome None need = ⊥
+  IsOutcomeNeed outcome (Some mapped) (Vector path) =
+      IsLeast (Gives mapped.decision.tree outcome) path
+  IsOutcomeNeed outcome (Some mapped) (Beside path partner test) = ⊥
+  IsOutcomeNeed outcome (Some mapped) (Both first second) = ⊥
+
+  -- a condition needs one vector, with the least test of its partner, or two
+  abbrev pub IsConditionNeed : ℕ → ℕ → Option Mapped → Need → Type 0
+  IsConditionNeed d k None need = ⊥
+  IsConditionNeed d k (Some mapped) (Vector path) = ⊥
+  IsConditionNeed d k (Some mapped) (Beside path partner test) =
+      NeedsOne mode mapped.decision.tree k (IsSeen stands m d) path partner
+      × IsLeast (IsEvaluated stands d mapped.decision.tree partner) test
+  IsConditionNeed d k (Some mapped) (Both first second) =
+      NeedsTwo mode mapped.decision.tree k (IsSeen stands m d) first second
+
+  abbrev pub IsNeed : ObligationId → Need → Type 0
+  IsNeed (Outcome d outcome) need = IsOutcomeNeed outcome (slice_get m.decisions d) need
+  IsNeed (Condition d k) need = IsConditionNeed d k (slice_get m.decisions d) need
+  IsNeed id need = ⊥

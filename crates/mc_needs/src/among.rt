@@ -2,7 +2,7 @@
 ghost use Rattle.std.specs.Prelude.{◌≡◌, ◌+◌, ◌<◌, ◌≤◌, ◌↔◌, ◌++◌, ◌∷◌, [], length, if◌then◌else◌, IfOk, IsTrue};
 ghost use Rattle.mc_cond.specs.Tree.{tree_of, size};
 ghost use Rattle.mc_paths.specs.Paths.{count_of};
-ghost use Rattle.mc_needs.specs.Needs.{IsMarked};
+ghost use Rattle.mc_needs.specs.steps.Marks.{IsMarked};
 ghost use Rattle.mc_needs.specs.steps.Among.{AreAmong, IsAny, IsMember};
 
 use mc_pairs::has_influence_as;
@@ -37,6 +37,24 @@ pub(crate) fn with_influence(
     let mut paths = Vec::new(alloc);
     for path in 0..mapped.numbering.count() {
         let is_meant = is_member(mapped, marks, path, k, value);
+        push_if(&mut paths, path, is_meant)?;
+    }
+    Ok(paths)
+}
+
+/// The marked paths.
+pub(crate) fn marked_paths(
+    alloc: Global,
+    mapped: &MappedDecision,
+    marks: &[bool],
+) -> Result<Vec<u32>, AllocError>
+    requires { mapped.now.base + count_of (tree_of mapped.now.decision.tree) ≤ length marks.now }
+    ensures { IfOk result (λ v. let t = tree_of mapped.now.decision.tree in
+        AreAmong (IsMarked marks.now mapped.now.base) (count_of t) v.items) }
+{
+    let mut paths = Vec::new(alloc);
+    for path in 0..mapped.numbering.count() {
+        let is_meant = is_marked(mapped, marks, path);
         push_if(&mut paths, path, is_meant)?;
     }
     Ok(paths)

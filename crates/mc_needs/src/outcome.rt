@@ -7,7 +7,7 @@ ghost use Rattle.mc_needs.specs.Needs.{Gives};
 use mc_probe::MappedDecision;
 
 /// The least path with this outcome. Each decision has one.
-pub fn least_with(mapped: &MappedDecision, outcome: bool) -> u32
+pub(crate) fn least_with(mapped: &MappedDecision, outcome: bool) -> u32
     ensures { IsLeast (Gives (tree_of mapped.now.decision.tree) outcome) result }
 {
     for path in 0..mapped.numbering.count() {

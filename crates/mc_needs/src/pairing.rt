@@ -1,12 +1,15 @@
 //! What a condition of a decision needs, where some of the decision's vectors are known.
 ghost use Rattle.std.specs.Prelude.{◌≡◌, ℕ, ◌+◌, ◌<◌, ◌≤◌, All, IfOk, IfSome, IfNone, length};
+ghost use Rattle.std.specs.Bool.{OnTrue, OnFalse};
 ghost use Rattle.std.specs.List.Sorted.{IsStrictlyIncreasing};
 ghost use Rattle.mc_cond.specs.Tree.{Tree, tree_of, size};
 ghost use Rattle.report_options.specs.declared.mode.Mode.{Mode};
 ghost use Rattle.mc_paths.specs.Paths.{count_of};
 ghost use Rattle.mc_pairs.specs.Pairs.{NonePaired, IsChosen};
 ghost use Rattle.mc_oblige.specs.Evidence.{pairs_of};
-ghost use Rattle.mc_needs.specs.Needs.{IsPairFor, IsUnpaired, IsHalfKnown, IsLeastPair, IsMarked, IsPairing};
+ghost use Rattle.mc_needs.specs.Needs.{IsPairFor, IsUnpaired, IsHalfKnown, IsLeastPair};
+ghost use Rattle.mc_needs.specs.steps.Marks.{IsMarked};
+ghost use Rattle.mc_needs.specs.steps.Pairing.{HasPair, IsPairing};
 ghost use Rattle.mc_needs.specs.steps.Among.{AreAmong, IsAny};
 ghost use Rattle.mc_needs.specs.steps.Pairing.{
   earlier_of,
@@ -14,7 +17,7 @@ ghost use Rattle.mc_needs.specs.steps.Pairing.{
   IsLeastIfAny,
 };
 
-use crate::among::{all_paths, is_marked, with_influence};
+use crate::among::{all_paths, is_marked, marked_paths, with_influence};
 use mc_masking::masking_pair;
 use mc_oblige::Mode;
 use mc_probe::MappedDecision;
@@ -23,17 +26,41 @@ use std::alloc::{AllocError, Global};
 
 /// What a condition needs, by the numbers of paths.
 #[derive(Clone, Copy, Debug, PartialEq, Eq)]
-pub enum Pairing {
+pub(crate) enum Pairing {
     /// One vector, that makes a pair with a known one, the partner.
     Beside { path: u32, partner: u32 },
     /// Two vectors, which are a pair.
     Both { first: u32, second: u32 },
 }
 
+/// Whether two marked paths are a pair for condition `k`. Marks stand at bits.
+pub(crate) fn has_pair(
+    alloc: Global,
+    mapped: &MappedDecision,
+    marks: &[bool],
+    mode: Mode,
+    k: u32,
+) -> Result<bool, AllocError>
+    requires marks { mapped.now.base + count_of (tree_of mapped.now.decision.tree)
+        ≤ length marks.now }
+    requires condition { k < size (tree_of mapped.now.decision.tree) }
+    ensures met { IfOk result (λ is. OnTrue is (HasPair mode (tree_of mapped.now.decision.tree) k
+        (IsMarked marks.now mapped.now.base))) }
+    ensures missing { IfOk result (λ is. OnFalse is
+        (IsUnpaired mode (tree_of mapped.now.decision.tree) k
+        (IsMarked marks.now mapped.now.base))) }
+{
+    let paths = marked_paths(alloc, mapped, marks)?;
+    match chosen_pair(mapped, &paths, mode, k) {
+        Some(_) => Ok(true),
+        None => Ok(false),
+    }
+}
+
 /// What condition `k` needs, of which no two marked paths are a pair: one vector that makes a pair
 /// with a marked one, of these the one whose pair a report would choose; where no single one does,
 /// the pair that a report would choose of all. Marks stand at bits.
-pub fn needed_pair(
+pub(crate) fn needed_pair(
     alloc: Global,
     mapped: &MappedDecision,
     marks: &[bool],

@@ -12,8 +12,7 @@ NumberIsBelow =
 
 abbrev pub NumberIsOnce : Type 0
 NumberIsOnce =
-    (t : Tree) (v w : Evaluation) → IsNumbered t → IsVector t v → IsVector t w →
-    path_of t v ≡ path_of t w → v ≡ w
+    (t : Tree) (v w : Evaluation) → IsVector t v → IsVector t w → path_of t v ≡ path_of t w → v ≡ w
 
 -- without operators that are evaluated in full no number below the count is idle
 abbrev pub NumberIsTaken : Type 0
@@ -22,7 +21,7 @@ NumberIsTaken =
 
 abbrev pub NumberKeepsOrder : Type 0
 NumberKeepsOrder =
-    (t : Tree) (v w : Evaluation) → IsNumbered t → IsVector t v → IsVector t w →
+    (t : Tree) (v w : Evaluation) → IsVector t v → IsVector t w →
     (path_of t v < path_of t w) ↔ IsBefore v.answers w.answers
 
 -- the vectors of a decision that stand before v, each once and in order

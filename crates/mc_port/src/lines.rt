@@ -1,4 +1,4 @@
-//! Putting lines.
+//! How lines are put, each as one piece.
 ghost use Rattle.std.specs.Prelude.{◌≡◌, ◌≤◌};
 ghost use Rattle.std.specs.List.{concat};
 ghost use Rattle.mc_port.specs.Lines.{bytes_of};

@@ -97,7 +97,7 @@ drop_toks zero (t ∷ ts) = refl
 drop_toks (suc n) [] = refl
 drop_toks (suc n) (t ∷ ts) = drop_toks n ts
 
--- so many tokens are left out
+-- this number of tokens are left out
 pub holds_moved : (start : Option (List ℕ)) (first : ℕ) (p : Pen) (b : Option (List ℕ)) (f : ℕ) (s s' : CodePen) (n : ℕ) → Holds start first p b f s → toks_of s'.left.now ≡ drop n (toks_of s.left.now) → s'.specifiers.now ≡ s.specifiers.now → s'.gap ≡ s.gap → s'.fault ≡ s.fault → Holds start first (record p { left = drop n p.left }) b f s'
 holds_moved start first p b f s s' n h left specifiers gap fault = record {
   left = ap (drop n) h.left ∙ sym left;

@@ -32,7 +32,7 @@ put texts pen = record pen { written = pen.written ++ texts }
 abbrev pub texts_of : List Tok → List (List ℕ)
 texts_of ts = map (λ t. t.text) ts
 
--- copies so many tokens
+-- copies this number of tokens
 abbrev pub copy : ℕ → Pen → Pen
 copy n pen =
     record pen { written = pen.written ++ texts_of (take n pen.left); left = drop n pen.left }

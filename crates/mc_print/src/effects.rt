@@ -1,4 +1,4 @@
-//! Effects.
+//! How effects are printed.
 ghost use Rattle.std.specs.Prelude.{map};
 ghost use Rattle.mc_probe.specs.Views.{effect_of};
 ghost use Rattle.mc_print.specs.Texts as spec;

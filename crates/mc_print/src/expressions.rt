@@ -1,4 +1,4 @@
-//! Expressions.
+//! How expressions are printed.
 ghost use Rattle.std.specs.Prelude.{◌∷◌, [], codes, map};
 ghost use Rattle.mc_probe.specs.Views.{argument_of, arguments_from, call_of, expression_of, place_of, structure_of};
 ghost use Rattle.mc_print.specs.Insertions.{at, opening};

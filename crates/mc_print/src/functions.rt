@@ -1,4 +1,4 @@
-//! Functions.
+//! How functions are printed.
 ghost use Rattle.std.specs.Prelude.{map};
 ghost use Rattle.mc_probe.specs.Views.{function_of};
 ghost use Rattle.mc_print.specs.Texts as spec;

@@ -1,4 +1,4 @@
-//! Initializers.
+//! How initializers are printed.
 ghost use Rattle.std.specs.Prelude.{map, option_map};
 ghost use Rattle.mc_probe.specs.Views.{declarator_of, initializer_of, initializers_from};
 ghost use Rattle.mc_print.specs.Texts as spec;

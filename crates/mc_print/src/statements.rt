@@ -1,4 +1,4 @@
-//! Statements.
+//! How statements are printed.
 ghost use Rattle.std.specs.Prelude.{map, option_map};
 ghost use Rattle.mc_probe.specs.Views.{expression_of, return_value_of, start_of, statement_of, statements_from};
 ghost use Rattle.mc_print.specs.Insertions as row;

@@ -1,4 +1,4 @@
-//! Instrumented programs.
+//! A program with its probes, which is well-formed by its type.
 ghost use Rattle.std.specs.Prelude.{◌≡◌};
 ghost use Rattle.mc_probe.specs.Trees.{tree_of};
 ghost use Rattle.mc_probe.specs.WellFormed.{IsWellFormed};

@@ -24,7 +24,7 @@ strip (b ∷ front) (c ∷ text) = if b == c then strip front text else None
 abbrev pub until : ℕ → List ℕ → Option (List ℕ × List ℕ)
 until byte text = option_map (λ n. (take n text, drop (n + 1) text)) (position (λ b. b == byte) text)
 
--- so many parts of one kind, and what follows them
+-- this number of parts of one kind, and what follows them
 abbrev pub many_in : (List ℕ → Option (ℕ × List ℕ)) → ℕ → List ℕ → Option (List ℕ × List ℕ)
 many_in one zero text = Some ([], text)
 many_in one (suc n) text =

@@ -13,7 +13,7 @@ use crate::lines::bit_front;
 use crate::parts::strip;
 use mc_core::Shape;
 
-/// Adds so many words, and gives what follows them.
+/// Adds this number of words, and gives what follows them.
 fn read_words<'a>(
     words: &mut Vec<u64>,
     text: &'a [u8],
@@ -36,7 +36,7 @@ fn read_words<'a>(
     Ok(left)
 }
 
-// Whether a word has bits of so many tests alone.
+// Whether a word has bits of the tests alone, of which there is this number.
 fn fits(word: u64, tests: u32) -> bool
     ensures { result ≡ nat_lt word (2 ^ tests) }
 {

@@ -80,7 +80,7 @@ fn read_test<'a>(
     Ok(test.rest)
 }
 
-/// Adds so many tests, and gives what follows their lines.
+/// Adds this number of tests, and gives what follows their lines.
 pub(crate) fn read_tests<'a>(
     alloc: Global,
     names: &mut Vec<Name>,

@@ -33,7 +33,7 @@ module _ (stands : Event → ℕ → Type 0) (m : Map) (mode : Mode) where
       (AreEnough (IsStillKept n stayed) × Leaves n stayed kept)
       ⊎ ((¬ AreEnough (IsStillKept n stayed)) × Leaves n (n ∷ stayed) kept)
 
-  -- of so many tests
+  -- of this number of tests
   abbrev pub AreKept : ℕ → List ℕ → Type 0
   AreKept tests kept = Leaves tests [] kept
 
@@ -50,7 +50,7 @@ module _ (stands : Event → ℕ → Type 0) (m : Map) (mode : Mode) where
     pub none_before : (q : ℕ) (o : Obligation) → q < position →
         slice_get (obligations_of m) q ≡ Some o → ¬ IsLost kept test o.id
 
-  -- of so many tests, the kept ones, and for each of them the first obligation that is lost
+  -- of this number of tests, the kept ones, and for each of them the first obligation that is lost
   -- without it
   pub record IsReduced (tests : ℕ) (kept lost : List ℕ) : Type 0 where
     pub are_kept : AreKept tests kept

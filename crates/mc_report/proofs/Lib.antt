@@ -1,8 +1,6 @@
 pub mod Halving
-pub mod Paths
 pub mod Judging
 pub mod Turns
-pub mod Answered
 pub mod Present
 pub mod Texts
 pub mod Members

@@ -9,7 +9,7 @@ use Rattle.mc_cond.specs.Vectors.{Evaluation}
 use Rattle.mc_probe.specs.Maps.{Mapped}
 use Rattle.report_words.specs.Hexadecimal.{byte_text, hexadecimal_digit}
 use Rattle.mc_report.specs.Lines.{path_vector}
-use Rattle.mc_report.specs.Vectors.{vector_at}
+use Rattle.evidence_texts.specs.Vectors.{vector_at}
 use Rattle.mc_report.specs.steps.Texts.{AreTexts}
 use Rattle.mc_report.specs.Words.{answer_byte, truth_byte, vector_text}
 

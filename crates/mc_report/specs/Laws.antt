@@ -13,7 +13,7 @@ use Rattle.mc_oblige.specs.Obligations.{obligations_of}
 use Rattle.mc_oblige.specs.Shown.{HasEvent}
 use Rattle.mc_oblige.specs.Verdicts.{AreVerdicts}
 use Rattle.mc_oblige.specs.Evaluated.{AreEvaluated}
-use Rattle.mc_report.specs.Vectors.{vector_at}
+use Rattle.evidence_texts.specs.Vectors.{vector_at}
 use Rattle.mc_report.specs.Json.{json_data}
 use Rattle.mc_report.specs.Report.{AreJudged, Report}
 use Rattle.mc_report.specs.VectorsText.{IsPresent}

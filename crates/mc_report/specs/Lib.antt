@@ -1,5 +1,4 @@
 pub mod Words
-pub mod Vectors
 pub mod Report
 pub mod Status
 pub mod Lines

@@ -1,5 +1,5 @@
 -- The lines of tests and of obligations.
-use Rattle.std.specs.Prelude.{ℕ, Option, Some, None, List, [], ◌∷◌, ◌++◌, flat_map, codes, slice_get, slice_index_or}
+use Rattle.std.specs.Prelude.{ℕ, Option, Some, None, List, [], ◌∷◌, ◌++◌, codes, slice_get}
 use Rattle.std.specs.List.{concat}
 use Rattle.std.specs.Fmt.{decimal}
 use Rattle.serde_json.specs.Data.{string}
@@ -15,24 +15,13 @@ use Rattle.mc_oblige.specs.declared.verdict.Evidence.{Evidence}
 use Rattle.mc_oblige.specs.declared.verdict.Evidence.TheVariants.{Absent, One, Pair}
 use Rattle.mc_oblige.specs.declared.verdict.VerdictState.{VerdictState}
 use Rattle.mc_oblige.specs.declared.verdict.Verdict.{Verdict}
-use Rattle.mc_report.specs.Words.{newline, state_word, number_text, value_text, id_text, verdict_word, vector_text}
-use Rattle.mc_report.specs.Vectors.{vector_at}
+use Rattle.mc_report.specs.Words.{newline, id_text, verdict_word}
+pub use Rattle.evidence_texts.specs.Names.{name_of, name_text}
+pub use Rattle.evidence_texts.specs.Paths.{path_text, path_vector}
+pub use Rattle.told_lines.specs.Tests.{result_text, run_line, test_text}
 use Rattle.mc_report.specs.Report.{Report}
 
 -- ---- tests
-
-abbrev pub test_text : List ℕ → TestState → List ℕ
-test_text name state = concat (codes "test " ∷ name ∷ codes " " ∷ state_word state ∷ [])
-
--- the values of the calls that returned, and the numbers of the output
-abbrev pub result_text : Told → List ℕ
-result_text told =
-    concat (codes " values" ∷ flat_map value_text told.values ∷ codes " output"
-    ∷ flat_map number_text told.output
-    ∷ [])
-
-abbrev pub run_line : List ℕ → TestState → Told → List ℕ
-run_line name state told = concat (test_text name state ∷ result_text told ∷ newline ∷ [])
 
 abbrev pub run_lines : List (List ℕ) → List TestState → List Told → List (List ℕ)
 run_lines (name ∷ names) (state ∷ states) (told ∷ results) =
@@ -52,21 +41,6 @@ test_lines names states (Some results) = run_lines names states results
 test_lines names states None = kept_lines names states
 
 -- ---- obligations
-
-abbrev pub name_of : List (List ℕ) → ℕ → List ℕ
-name_of names test = slice_index_or names test []
-
-abbrev pub name_text : List (List ℕ) → ℕ → List ℕ
-name_text names test = concat (codes " by " ∷ name_of names test ∷ [])
-
--- the vector of a path of the decision
-abbrev pub path_vector : Option Mapped → ℕ → List ℕ
-path_vector None path = []
-path_vector (Some m) path = vector_text (vector_at m.decision.tree path)
-
-abbrev pub path_text : Option Mapped → ℕ → List ℕ
-path_text None path = []
-path_text (Some m) path = concat (codes " " ∷ path_vector (Some m) path ∷ [])
 
 -- the decision of a condition
 abbrev pub decision_in : List Mapped → ObligationId → Option Mapped

@@ -1,9 +1,9 @@
 -- What a report is made from, and when its parts belong together.
 use Rattle.std.specs.Prelude.{◌≡◌, ℕ, ◌<◌, ◌^◌, Option, Some, None, List, [], ◌∷◌, length, slice_get, IsUtf8}
-use Rattle.mc_paths.specs.Paths.{IsInUse}
 use Rattle.mc_typed.specs.declared.plans.TestState.{TestState}
 use Rattle.mc_meaning.specs.Seen.{Told}
 use Rattle.mc_probe.specs.Maps.{Mapped}
+pub use Rattle.evidence_texts.specs.Paths.{HasPath}
 use Rattle.report_options.specs.declared.mode.Mode.{Mode}
 use Rattle.mc_oblige.specs.declared.obligation.ObligationId.{ObligationId}
 use Rattle.mc_oblige.specs.declared.obligation.ObligationId.TheVariants.{Condition}
@@ -24,11 +24,6 @@ pub record Report : Type 0 where
   pub decisions : List Mapped
   pub obligations : List Obligation
   pub verdicts : List Verdict
-
--- the decision has a path of this number
-abbrev pub HasPath : Option Mapped → ℕ → Type 0
-HasPath None path = ⊥
-HasPath (Some m) path = IsInUse m.decision.tree path
 
 -- The evidence is of the obligation's kind, and the tests and paths that it names are there: of
 -- `tests` tests, and of these decisions.

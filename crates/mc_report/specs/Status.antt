@@ -1,16 +1,10 @@
 -- The status of a report.
 use Rattle.std.specs.Prelude.{ℕ, Bool, true, false, ◌&&◌, if◌then◌else◌}
 use Rattle.std.specs.List.{list_all}
-use Rattle.mc_typed.specs.declared.plans.TestState.{TestState}
-use Rattle.mc_typed.specs.declared.plans.TestState.TheVariants.{Pass, Fail, Ended}
 use Rattle.mc_oblige.specs.declared.verdict.VerdictState.{VerdictState}
 use Rattle.mc_oblige.specs.declared.verdict.VerdictState.TheVariants.{Met, Justified, Stale, Missing}
 use Rattle.mc_report.specs.Report.{Report}
-
-abbrev pub passed : TestState → Bool
-passed Pass = true
-passed Fail = false
-passed (Ended why) = false
+pub use Rattle.told_lines.specs.Passes.{passed}
 
 abbrev pub is_settled : VerdictState → Bool
 is_settled Met = true

@@ -6,35 +6,11 @@ ghost use Rattle.mc_report.specs.Report.{HasPath, IsOfKind, IsReason};
 ghost use Rattle.mc_report.specs.steps.Kinds.{IsCondition, IsIn};
 
 use crate::quoted::quoted_bytes;
-use crate::vector::push_vector;
+use evidence_texts::{push_name, push_path};
 use mc_oblige::{Evidence, ObligationId, Reason};
 use mc_probe::MappedDecision;
 use mc_typed::Name;
 use std::alloc::{AllocError, Global};
-
-/// Adds the name of a test.
-pub(crate) fn push_name(line: &mut Vec<u8>, names: &[Name], test: u32) -> Result<(), AllocError>
-    requires { test < length names.now }
-    ensures { OnOk result (line.new.items ≡ line.old.items ++ name_text names.now test) }
-{
-    line.extend_from_slice(b" by ")?;
-    line.extend_from_slice(names[test as usize].bytes())
-}
-
-/// Adds the vector of a path of decision `d`.
-pub(crate) fn push_path(
-    line: &mut Vec<u8>,
-    decisions: &[MappedDecision],
-    d: u32,
-    path: u32,
-) -> Result<(), AllocError>
-    requires { HasPath (slice_get (map mapped_of decisions.now) d) path }
-    ensures { OnOk result (line.new.items ≡ line.old.items
-        ++ path_text (slice_get (map mapped_of decisions.now) d) path) }
-{
-    line.extend_from_slice(b" ")?;
-    push_vector(line, &decisions[d as usize].numbering.vector_of(path))
-}
 
 /// The vectors and the tests of a pair of paths of a condition's decision.
 #[derive(Clone, Copy)]

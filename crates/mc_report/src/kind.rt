@@ -6,7 +6,7 @@ use mc_oblige::ObligationId;
 
 /// What is counted together.
 #[derive(Clone, Copy)]
-pub(crate) enum Kind {
+pub enum Kind {
     Entries,
     Exits,
     Statements,

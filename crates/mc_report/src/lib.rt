@@ -15,11 +15,9 @@ mod quoted;
 mod report;
 mod row;
 mod settled;
-mod shown;
 mod summary;
 mod test_lines;
 mod text;
-mod vector;
 mod vectors;
 mod verdicts;
 mod words;
@@ -28,6 +26,7 @@ pub use csv_form::{csv_report_lines, write_csv};
 pub use fault::ReportFault;
 pub use form::lines_in;
 pub use json_form::{json_report_line, write_json};
+pub use kind::Kind;
 pub use laws::{
     evaluated_are_present, reports_have_no_float, vector_is_of_path, verdicts_are_reported,
 };

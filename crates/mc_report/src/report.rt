@@ -1,4 +1,4 @@
-//! Reports.
+//! What a report is made from.
 use mc_meaning::TestResult;
 use mc_oblige::{Mode, Obligation, Verdict};
 use mc_probe::BitMap;

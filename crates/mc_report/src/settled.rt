@@ -8,6 +8,7 @@ use crate::counts::one_where;
 use crate::report::Report;
 use mc_oblige::{Verdict, VerdictState};
 use mc_typed::TestState;
+use told_lines::passed;
 
 /// 0 where all tests passed and no obligation is missing or stale, else 1. Takes no memory.
 pub fn status(report: &Report<'_>) -> u8
@@ -42,15 +43,6 @@ fn all_settled(verdicts: &[Verdict]) -> bool
     ensures { result ≡ list_all (λ v. is_settled v.state) verdicts.now }
 {
     verdicts.iter().all(|verdict| is_settled(verdict.state))
-}
-
-fn passed(state: TestState) -> bool
-    ensures { result ≡ passed state }
-{
-    match state {
-        TestState::Pass => true,
-        TestState::Fail | TestState::Ended(_) => false,
-    }
 }
 
 fn is_settled(state: VerdictState) -> bool

@@ -9,6 +9,7 @@ use crate::report::Report;
 use crate::settled::passed_count;
 use crate::text::push_status;
 use std::alloc::{AllocError, Global};
+use told_lines::passed_text;
 
 fn push_load(alloc: Global, lines: &mut Vec<Vec<u8>>, functions: u32) -> Result<(), AllocError>
     ensures { OnOk result (bytes_of lines.new.items
@@ -29,8 +30,7 @@ fn push_passed(
 {
     let tests = report.states.len();
     let passed = passed_count(&report.states);
-    let line = format!(in alloc; "tests {tests} passed {passed}\n")?;
-    lines.push(line.as_bytes().to_vec(alloc)?)?;
+    lines.push(passed_text(alloc, tests, passed)?)?;
     Ok(())
 }
 

@@ -1,44 +1,16 @@
 //! The lines of tests.
-ghost use Rattle.std.specs.Prelude.{◌≡◌, ◌++◌, ◌∷◌, [], length, map, flat_map, IfOk, OnOk};
+ghost use Rattle.std.specs.Prelude.{◌≡◌, ◌++◌, ◌∷◌, [], length, map, flat_map, OnOk};
 ghost use Rattle.mc_meaning.specs.Seen.{told_of};
-ghost use Rattle.mc_report.specs.Lines.{kept_line, kept_lines, result_text, run_line, run_lines, test_lines, test_text};
+ghost use Rattle.mc_report.specs.Lines.{kept_line, kept_lines, result_text, run_line, run_lines, test_lines};
 ghost use Rattle.mc_report.specs.Report.{HasEach};
 ghost use Rattle.mc_report.specs.Seen.{bytes_of, report_of};
-ghost use Rattle.mc_report.specs.Words.{number_text, value_text};
+ghost use Rattle.mc_report.specs.Words.{value_text};
 
 use crate::report::Report;
 use mc_meaning::TestResult;
 use mc_typed::{Name, TestState};
-use report_words::state_word;
 use std::alloc::{AllocError, Global};
-
-/// The name of a test and its state, without the line's end.
-fn test_text(alloc: Global, name: &Name, state: TestState) -> Result<Vec<u8>, AllocError>
-    ensures { IfOk result (λ line. line.items ≡ test_text name.now state) }
-{
-    let mut line = Vec::new(alloc);
-    line.extend_from_slice(b"test ")?;
-    line.extend_from_slice(name.bytes())?;
-    line.extend_from_slice(b" ")?;
-    line.extend_from_slice(state_word(state).as_bytes())?;
-    Ok(line)
-}
-
-fn push_number(alloc: Global, line: &mut Vec<u8>, number: i128) -> Result<(), AllocError>
-    ensures { OnOk result (line.new.items ≡ line.old.items ++ number_text number) }
-{
-    let text = format!(in alloc; " {number}")?;
-    line.extend_from_slice(text.as_bytes())
-}
-
-fn push_value(alloc: Global, line: &mut Vec<u8>, value: Option<i128>) -> Result<(), AllocError>
-    ensures { OnOk result (line.new.items ≡ line.old.items ++ value_text value) }
-{
-    match value {
-        Some(number) => push_number(alloc, line, number),
-        None => line.extend_from_slice(b" void"),
-    }
-}
+use told_lines::{push_output, push_value, test_text};
 
 fn push_values(alloc: Global, line: &mut Vec<u8>, values: &[Option<i128>]) -> Result<(), AllocError>
     ensures { OnOk result (line.new.items ≡ line.old.items ++ flat_map value_text values.now) }
@@ -46,17 +18,6 @@ fn push_values(alloc: Global, line: &mut Vec<u8>, values: &[Option<i128>]) -> Re
     let mut left = values;
     while let [value, later @ ..] = left {
         push_value(alloc, line, *value)?;
-        left = later;
-    }
-    Ok(())
-}
-
-fn push_output(alloc: Global, line: &mut Vec<u8>, output: &[i32]) -> Result<(), AllocError>
-    ensures { OnOk result (line.new.items ≡ line.old.items ++ flat_map number_text output.now) }
-{
-    let mut left = output;
-    while let [number, later @ ..] = left {
-        push_number(alloc, line, i128::from(*number))?;
         left = later;
     }
     Ok(())

@@ -5,8 +5,8 @@ ghost use Rattle.mc_probe.specs.Mapped.{mapped_of};
 ghost use Rattle.mc_report.specs.Seen.{bytes_of};
 ghost use Rattle.mc_report.specs.VectorsText.{IsPresent, vector_line, vectors_lines};
 
-use crate::evidence::{push_name, push_path};
 use crate::test_lines::push_runs;
+use evidence_texts::{push_name, push_path};
 use mc_meaning::TestResult;
 use mc_oblige::EvaluatedPath;
 use mc_probe::MappedDecision;

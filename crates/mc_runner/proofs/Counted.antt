@@ -6,7 +6,7 @@ use Rattle.mc_value.specs.declared.trap.Trap.{Trap}
 use Rattle.mc_value.specs.declared.trap.Trap.TheVariants.{NoReturn}
 use Rattle.mc_cond.specs.Vectors.{Evaluation}
 use Rattle.mc_typed.specs.declared.plans.Ending.TheVariants.{Levels}
-use Rattle.mc_typed.specs.Tree.{ResultType, NoResult, NumberResult, StructureResult, Expression, Declarator, ReturnValue, Statement, Statements, Function, Program}
+use Rattle.mc_typed.specs.Tree.{ResultType, NoResult, NumberResult, StructureResult, Expression, ReturnValue, Statement, Statements, Function, Program}
 use Rattle.mc_typed.specs.Tree as t
 use Rattle.mc_typed.specs.Sound.{IsSound, IsFunction, AreFunctions, scope_of, outermost, labels_of, result_at}
 use Rattle.mc_typed.specs.Plans.{Call, Plan}
@@ -33,7 +33,7 @@ use Rattle.mc_meaning.proofs.Runs.{IsGiven, Gives}
 use Rattle.laws_simulation.proofs.Completes.{Ends, items_end}
 use Rattle.mc_runner.proofs.Numbers as numbers
 
--- so many entries, and so many exits, statements and labels
+-- an event of one of these entries, or of one of these exits, statements and labels
 abbrev pub IsCounted : ℕ → Points → Event → Type 0
 IsCounted entries all (Entered f) = f < entries
 IsCounted entries all (Exited k) = k < all.exits

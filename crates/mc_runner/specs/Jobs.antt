@@ -68,7 +68,7 @@ pub record HasDone (tree : Tree) (plans : List Plan) (c : CoverView) (d : Done) 
 abbrev pub IsDone : List TestPlan → Job → Done → Type 0
 IsDone plans j d = HasDone (tree_of j.machine.program) (map plan_of plans) j.recorder.cover d
 
--- each of so many jobs is done where it found memory
+-- each of this number of jobs is done where it found memory
 abbrev pub AreDone : List TestPlan → ℕ → List Job → List (Result Done AllocError) → Type 0
 AreDone plans count jobs done =
     (i : ℕ) (j : Job) (d : Result Done AllocError) → i < count →

@@ -1,5 +1,5 @@
 //! What a worker did.
-ghost use Rattle.std.specs.Prelude.{◌≡◌, ℕ, ◌<◌, ◌++◌, List, All, length, map, vec_len};
+ghost use Rattle.std.specs.Prelude.{◌≡◌, ℕ, ◌<◌, ◌++◌, List, All, vec_len};
 ghost use Rattle.mc_cover.specs.Tells.{IsSettled};
 ghost use Rattle.mc_cover.specs.Views.{after_join};
 ghost use Rattle.mc_meaning.specs.Seen.{Told};

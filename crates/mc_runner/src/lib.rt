@@ -3,10 +3,8 @@
 #![tactic(auto)]
 
 mod done;
-mod expected;
 mod job;
 mod laws;
-mod output;
 mod results;
 mod states;
 mod watching;

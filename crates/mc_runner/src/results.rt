@@ -2,14 +2,14 @@
 ghost use Rattle.std.specs.Prelude.{◌≡◌, map, IfOk};
 ghost use Rattle.mc_typed.specs.Plans.{plan_call_of, plan_of};
 ghost use Rattle.mc_meaning.specs.Seen.{told_of};
-ghost use Rattle.mc_meaning.specs.Tests.{state_of};
+ghost use Rattle.mc_meaning.specs.Tests.{are_met, state_of};
 ghost use Rattle.mc_interp.specs.Machines.{done_of};
 ghost use Rattle.mc_runner.specs.Recorded.{told_from};
 
-use crate::expected::are_met;
 use mc_interp::{CallDone, Machine};
 use mc_meaning::TestResult;
 use mc_typed::{Call, Ending, TestPlan, TestState};
+use runner_steps::{Comparison, state_where};
 use std::alloc::{AllocError, Global};
 
 /// What is told of the last run of the machine, which was that of this test and ended so.
@@ -49,15 +49,19 @@ pub(crate) fn state(calls: &[Call], ending: Ending, done: &[CallDone], output: &
     ensures { result
         ≡ state_of (map plan_call_of calls.now) ending (map done_of done.now) output.now }
 {
-    match ending {
-        Ending::Returned => {
-            if are_met(calls, done, output) {
-                TestState::Pass
-            } else {
-                TestState::Fail
-            }
-        }
-        Ending::Trap(_) | Ending::Fuel | Ending::Levels | Ending::Cells | Ending::OutputFull =>
-            TestState::Ended(ending),
+    state_where(ending, are_met(calls, done, output))
+}
+
+/// Whether each call meets what is expected of it.
+fn are_met(calls: &[Call], done: &[CallDone], output: &[i32]) -> bool
+    ensures { result
+        ≡ are_met (map plan_call_of calls.now) (map done_of done.now) 0 output.now }
+{
+    let mut compared = Comparison::new(calls, output);
+    let mut left = done;
+    while let [call, later @ ..] = left {
+        compared = compared.after(call.value, call.output_end);
+        left = later;
     }
+    compared.is_met()
 }

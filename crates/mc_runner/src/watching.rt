@@ -29,8 +29,8 @@ use std::thread;
 use std::thread::Threads;
 
 /// Runs the tests as `run_tests` does, and beside the workers a watcher, which claims no test and
-/// makes so many looks at the words. The counts of the looks stand in their order. After a refusal
-/// the pass is gone.
+/// makes this number of looks at the words. The counts of the looks stand in their order. After a
+/// refusal the pass is gone.
 pub fn watch_tests<R: Threads + Sync, G: Gate>(
     rt: &R,
     alloc: Global,

@@ -22,30 +22,17 @@ use mc_meaning::TestResult;
 use mc_port::Gate;
 use mc_probe::Instrumented;
 use mc_typed::{Ending, TestPlan, TestState};
+use runner_steps::workers_for;
 use std::alloc::{AllocError, Global};
 use std::thread;
 use std::thread::Threads;
 
-/// So many workers as are asked for, but no more than there are tests, and at least one.
-fn needed(workers: u32, tests: usize) -> u32
-    requires { (1 ≤ workers) × (workers ≤ most_workers) }
-    ensures { (1 ≤ result) × (result ≤ workers) }
-{
-    if tests >= workers as usize {
-        workers
-    } else if tests == 0 {
-        1
-    } else {
-        tests as u32
-    }
-}
-
-/// Runs the tests on the program by so many workers, each with a machine of its own in a thread of
-/// its own where one can be made; but by no more workers than there are tests, since each takes
-/// time and memory for its machine. A worker claims a test, passes the gate with its number, and
-/// runs it from the initial values of the static objects. The pass that comes back has every test
-/// claimed once, and exactly the hits of the tests' runs. The results stand in the order of the
-/// tests. Machines and passes are made before the first test. After a refusal the pass is gone.
+/// Runs the tests on the program by this number of workers, each with a machine of its own in a
+/// thread of its own where one can be made; but by no more workers than there are tests, since each
+/// takes time and memory for its machine. A worker claims a test, passes the gate with its number,
+/// and runs it from the initial values of the static objects. The pass that comes back has every
+/// test claimed once, and exactly the hits of the tests' runs. The results stand in the order of
+/// the tests. Machines and passes are made before the first test. After a refusal the pass is gone.
 pub fn run_tests<R: Threads + Sync, G: Gate>(
     rt: &R,
     alloc: Global,
@@ -69,11 +56,11 @@ pub fn run_tests<R: Threads + Sync, G: Gate>(
     ensures results { IfOk result (λ r. map told_of r.1.items
         ≡ map (told_by (tree_of program.now)) (map plan_of plans.now)) }
 {
-    let workers = needed(workers, plans.len());
+    let workers = workers_for(workers, plans.len());
     run_by(rt, alloc, cover, pass, program, plans, workers, gate)
 }
 
-/// The same by exactly so many workers.
+/// The same by exactly this number of workers.
 fn run_by<R: Threads + Sync, G: Gate>(
     rt: &R,
     alloc: Global,
@@ -126,7 +113,7 @@ pub(crate) fn untold(alloc: Global, count: usize) -> Result<Vec<TestResult>, All
     Ok(results)
 }
 
-/// The jobs of so many workers. The cover has this shape.
+/// The jobs of this number of workers. The cover has this shape.
 pub(crate) fn hire<'c, 'p, 'a>(
     alloc: Global,
     cover: &'c Cover,
@@ -165,7 +152,8 @@ pub(crate) fn work_all<'c, 'p, 'a, R: Threads + Sync, G: Gate>(
     ensures count { IfOk result (λ v. vec_len v ≡ vec_len jobs.entry) }
     ensures done { IfOk result (λ v. (i : ℕ) (j : Job) (d : Result Done AllocError) →
         i < vec_len jobs.entry →
-        IfOk (slice_index_or v.items i d) (IsDone plans.now (slice_index_or jobs.entry.items i j))) }
+        IfOk (slice_index_or v.items i d)
+        (IsDone plans.now (slice_index_or jobs.entry.items i j))) }
 {
     thread::map_vec(
         rt,

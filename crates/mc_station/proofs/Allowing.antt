@@ -23,6 +23,7 @@ pub one_allowed : (task : Task) (accepted : Accepted) (plans : List Plan) → Is
 one_allowed (command.on_matrix told) accepted plans = one_fit accepted plans
 one_allowed (command.watched looks) accepted plans = one_fit accepted plans
 one_allowed command.mutated accepted plans = one_few accepted
+one_allowed command.traced accepted plans = one_fit accepted plans
 
 module _ (accepted : Accepted) (plans : List Plan) where
   -- the matrix, or the mutants
@@ -33,22 +34,26 @@ module _ (accepted : Accepted) (plans : List Plan) where
   asked (command.on_matrix told) v allows = inl ((λ no. no), allows)
   asked (command.watched looks) v allows = inl ((λ no. no), allows)
   asked command.mutated v allows = inr (tt, allows)
+  asked command.traced v allows = inl ((λ no. no), allows)
 
   pub allows_matrix : (task : Task) (v : Result (Unit {0}) Reply) → ¬ IsToMutate task → MatrixFits accepted plans v → Allows task accepted plans v
   allows_matrix (command.on_matrix told) v other fits = fits
   allows_matrix (command.watched looks) v other fits = fits
   allows_matrix command.mutated v other fits = absurd (other tt)
+  allows_matrix command.traced v other fits = fits
 
   pub allows_mutants : (task : Task) (v : Result (Unit {0}) Reply) → IsToMutate task → FewMutants accepted v → Allows task accepted plans v
   allows_mutants (command.on_matrix told) v is few = absurd is
   allows_mutants (command.watched looks) v is few = absurd is
   allows_mutants command.mutated v is few = few
+  allows_mutants command.traced v is few = absurd is
 
 -- a task with a file of justifications is not `mutate`
 pub not_mutated : (task : Task) (name : List ℕ) → justified_by task ≡ Some name → ¬ IsToMutate task
 not_mutated (command.on_matrix told) name is = λ no. no
 not_mutated (command.watched looks) name is = λ no. no
 not_mutated command.mutated name is = absurd (cc is)
+not_mutated command.traced name is = λ no. no
 
 -- so its matrix fits
 pub allowed_fits : (task : Task) (name : List ℕ) (accepted : Accepted) (plans : List Plan) (u : Unit {0}) → justified_by task ≡ Some name → Allows task accepted plans (Ok u) → words_needed accepted plans ≤ most_words

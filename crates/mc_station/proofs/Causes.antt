@@ -10,6 +10,7 @@ use Rattle.mc_record.specs.Kept.{Kept}
 use Rattle.mc_record.specs.declared.pair_fault.PairFault.{PairFault}
 use Rattle.mc_record.specs.declared.pair_fault.PairFault.TheVariants as pair
 use Rattle.mc_record.specs.Merged.{pair_fault}
+use Rattle.mc_oblige.specs.Shown.{HasEvent}
 use Rattle.mc_oblige.specs.declared.justification.Justification.{Justification}
 use Rattle.mc_typed.specs.Plans.{Plan}
 use Rattle.station_replies.specs.Files.{File, Holds, limit_of, request_of}
@@ -27,7 +28,8 @@ use Rattle.mc_station.specs.Source.{Accepted, JudgesSource}
 use Rattle.mc_station.specs.Stages as stages
 use Rattle.mc_station.specs.Stages.{Ends, Judges, Stage, Tells, TellsOnMatrix, Writes, after_source, after_tests, file_of, first_stage, justified_by}
 use Rattle.mc_station.specs.Statuses.{AskedInTurn, StatusesHaveCauses, TextsAreAlone}
-use Rattle.mc_station.specs.Tests.{MatrixFits}
+use Rattle.mc_station.specs.Tests.{MatrixFits, stands, tested_of}
+use Rattle.mc_station.specs.commands.Analyse.{tested_in}
 use Rattle.mc_station.specs.commands.Merge.{Joins, pair_reply}
 use Rattle.mc_station.specs.commands.Mutate.{FewMutants}
 use Rattle.mc_station.specs.commands.Selfload.{LoadsItself}
@@ -35,6 +37,7 @@ use Rattle.mc_station.proofs.Allowing.{allowed_fits, asked}
 use Rattle.mc_station.proofs.Joining.{no_memory}
 use Rattle.mc_station.proofs.Order.{and_more, none_more, one_more}
 use Rattle.mc_station.proofs.Refusing.{refuses_source, refuses_source_of}
+use Rattle.mc_station.proofs.Reporting.{IsWritten, judged_whole}
 
 -- ---- the status of a refusal
 
@@ -201,8 +204,11 @@ module _ (files : Option Files) (given : Option Command) where
       subst (λ (x : Reply). Because x x.status) (sym is)
       (elim (number == 0) as (λ b. Because (record { status = (if b then status.Done else status.Incomplete); diag = []; out = lines }) (if b then status.Done else status.Incomplete)) [ true ↦ refl | false ↦ refl ])
 
+  is_whole : (r : Reply) → IsWritten r → Because r r.status
+  is_whole r whole = is_written whole.number whole.lines r whole.is
+
   matrix_cause : (skipped : List ℕ) (task : MatrixTask) (accepted : Accepted) (plans : List Plan) (js : List Justification) (r : Reply) → TellsOnMatrix skipped task accepted plans js r → Because r r.status
-  matrix_cause skipped (command.judged asked) accepted plans js r (made, on, is) = is_written _ _ r is
+  matrix_cause skipped (command.judged asked) accepted plans js r judges = is_whole r (judged_whole (stands skipped accepted plans) asked accepted (tested_of accepted.program plans) js r judges)
   matrix_cause skipped command.vectors accepted plans js r (paths, are, is) = is_written _ _ r is
   matrix_cause skipped command.recorded accepted plans js r (kept, of, is) = is_written _ _ r is
   matrix_cause skipped (command.reduced mode) accepted plans js r (kept, lost, reduced, is) = is_written _ _ r is
@@ -211,9 +217,11 @@ module _ (files : Option Files) (given : Option Command) where
   tells_cause skipped (command.on_matrix task) accepted plans js r tells = matrix_cause skipped task accepted plans js r tells
   tells_cause skipped (command.watched looks) accepted plans js r (counts, recorded, counted, many, is) = is_written _ _ r is
   tells_cause skipped command.mutated accepted plans js r (killers, are, is) = is_written _ _ r is
+  tells_cause skipped command.traced accepted plans js r is = is_written _ _ r is
 
   writes_cause : (text : SourceText) (accepted : Accepted) (r : Reply) → Writes text accepted r → Because r r.status
   writes_cause command.instrumented accepted r (tokens, lexes, is) = is_written 0 _ r is
+  writes_cause command.adapted accepted r is = is_written 0 _ r is
 
   on_source : (r : Reply) → SourceIsRefused files given r → r.status ≡ status.SourceRefused → Because r r.status
   on_source r cause is = with_status status.SourceRefused r is cause
@@ -246,7 +254,7 @@ module _ (files : Option Files) (given : Option Command) where
   ends_cause skipped (stages.kept name judging accepted) r at ends = absurd ends
   ends_cause skipped (stages.reasons name accepted basis) r at ends = absurd ends
   ends_cause skipped (stages.last accepted (stages.tested task plans) js) r at ends = tells_cause skipped task accepted plans js r ends
-  ends_cause skipped (stages.last accepted (stages.recorded asked found) js) r at (made, on, is) = is_written _ _ r is
+  ends_cause skipped (stages.last accepted (stages.recorded asked found) js) r at judges = is_whole r (judged_whole (HasEvent accepted.map found.matrix) asked accepted (tested_in found) js r judges)
   ends_cause skipped (stages.merged both) r at is = is_written 0 _ r is
   ends_cause skipped (stages.load count workers) r at loads = loads_cause skipped count workers r at loads
 

@@ -32,6 +32,7 @@ use Rattle.mc_station.proofs.Reducing.{reduction_keeps}
 use Rattle.mc_station.proofs.Reporting.{judged_keeps}
 use Rattle.mc_station.proofs.Unique.{no_fault, no_file}
 use Rattle.mc_station.proofs.Watching.{watch_keeps}
+use Rattle.mc_station.proofs.Written.{written_later}
 use Rattle.mc_station.proofs.Refusing.{IsRefused, reasons_later, refuses_first, refuses_kept, refuses_left, refuses_reasons, refuses_right, refuses_tests, tests_later}
 
 -- ---- ends
@@ -46,9 +47,11 @@ tells_keep : (skipped : List ℕ) (task : Task) (accepted : Accepted) (plans : L
 tells_keep skipped (command.on_matrix task) accepted plans js r tells = matrix_keeps skipped task accepted plans js r tells
 tells_keep skipped (command.watched looks) accepted plans js r tells = watch_keeps looks accepted plans r tells
 tells_keep skipped command.mutated accepted plans js r tells = mutation_keeps accepted plans r tells
+tells_keep skipped command.traced accepted plans js r is = subst IsLater (sym is) (written_later _ _)
 
 written_keeps : (text : SourceText) (accepted : Accepted) (r : Reply) → Writes text accepted r → IsLater r
 written_keeps command.instrumented accepted r writes = text_keeps accepted r writes
+written_keeps command.adapted accepted r is = subst IsLater (sym is) (written_later 0 _)
 
 -- the replies that a stage may lead to, if nothing fails
 abbrev May : Stage → Reply → Type 0

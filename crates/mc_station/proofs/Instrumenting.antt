@@ -18,7 +18,7 @@ use Rattle.mc_probe.specs.Trees.{tree_of}
 use Rattle.mc_probe.proofs.ErasedPrograms.{programs_erase}
 use Rattle.mc_runner.specs.Laws.{IsReady}
 use Rattle.mc_station.specs.Tests.{shape_of}
-use Rattle.mc_station.specs.Seen.{ArePlanned, HasItsTree, seen_accepted}
+use Rattle.mc_station.specs.Seen.{ArePlanned, HasItsTree, HasTokens, seen_accepted}
 use Rattle.mc_station.specs.declared.accepted.Accepted.{Accepted}
 
 module _ (a : Accepted) (p : Program) (erases : erase (tree_of a.tree).program ≡ p) where
@@ -29,10 +29,10 @@ module _ (a : Accepted) (p : Program) (erases : erase (tree_of a.tree).program �
   pub accepted_is : seen_accepted a ≡ record { source = a.source.now; program = p; map = map_of a.map }
   accepted_is = λ i. record { source = a.source.now; program = program_is i; map = map_of a.map }
 
-  pub instrumented : length a.source.now ≤ most_source_bytes → IsSound (erase (tree_of a.tree).program) → table.IsInstrumented p (map_of a.map) (tree_of a.tree) → HasItsTree a
-  instrumented short sound is =
+  pub instrumented : length a.source.now ≤ most_source_bytes → HasTokens a.source.now → IsSound (erase (tree_of a.tree).program) → table.IsInstrumented p (map_of a.map) (tree_of a.tree) → HasItsTree a
+  instrumented short tokens sound is =
       let P : Program → Type 0 = λ q. table.IsInstrumented q (map_of a.map) (tree_of a.tree) in
-      record { short = short; sound = subst IsSound (programs_erase a.tree.program) sound; tree = subst P (sym program_is) is }
+      record { short = short; tokens = tokens; sound = subst IsSound (programs_erase a.tree.program) sound; tree = subst P (sym program_is) is }
 
 -- ---- what running the tests asks for
 

@@ -20,6 +20,7 @@ pub mod Mapped
 pub mod Mutating
 pub mod Named
 pub mod Naming
+pub mod Needing
 pub mod Older
 pub mod Order
 pub mod Parts
@@ -35,6 +36,7 @@ pub mod Reporting
 pub mod Short
 pub mod Silence
 pub mod Summing
+pub mod Taking
 pub mod Unique
 pub mod Watching
 pub mod Written

@@ -15,7 +15,7 @@ slices_short source tokens small all = λ k d inside.
     let slice = subst (IsSlice source) (get_or-map tok_of tokens k d) (all k (tok_of d) there) in
     omega (arith, small, slice.1)
 
--- where the token starts that so many come before
+-- where the token starts that this number of tokens come before
 pub start_some : (source : List ℕ) (tokens : List Token) (n : ℕ) (t : Token) → n < length tokens → t ≡ get_or tokens n t → start_of source (drop n (toks_of tokens)) ≡ t.start
 start_some source [] n t inside is = absurd (omega (arith, inside))
 start_some source (u ∷ us) zero t inside is = rw is refl

@@ -1,5 +1,5 @@
 -- How the stages refuse their files.
-use Rattle.std.proofs.Common.{◌≡◌, ℕ, List, Option, Some, None, Err, refl, sym, subst, inl, inr}
+use Rattle.std.proofs.Common.{◌≡◌, ℕ, Bool, true, false, List, Option, Some, None, Err, refl, sym, subst, inl, inr}
 use Rattle.mc_command.specs.Command as command
 use Rattle.mc_record.specs.Kept.{Kept}
 use Rattle.station_replies.specs.Phases.{IsRefusal}
@@ -10,7 +10,7 @@ use Rattle.station_replies.specs.declared.status.Status.TheVariants as status
 use Rattle.mc_station.specs.Justified.{reasons_line}
 use Rattle.mc_station.specs.Records.{JudgesRecord, record_fault_line}
 use Rattle.mc_station.specs.Laws.{IsLater}
-use Rattle.mc_station.specs.Named.{HasFile, JudgesSourceOf, file_of_action}
+use Rattle.mc_station.specs.Named.{HasFile, JudgesSourceOf, JudgesTaken, TakesIf, file_of_action, makes_source}
 use Rattle.mc_station.specs.Source.{Accepted, JudgesSource}
 use Rattle.mc_station.specs.Stages as stages
 use Rattle.mc_station.specs.Stages.{Judges}
@@ -37,10 +37,20 @@ refuses_file : (file : Option (List ℕ)) (accepted : Accepted) (r : Reply) → 
 refuses_file None accepted r refuses = absurd refuses
 refuses_file (Some name) accepted r (not, is) = (nothing_line name, is)
 
+refuses_taken : (made : Bool) (bytes : List ℕ) (r : Reply) → TakesIf made bytes (Err r) → IsRefused r
+refuses_taken true bytes r (inl (outside, adapts, is)) = (_, is)
+refuses_taken true bytes r (inr (text, makes, inl (long, is))) = (_, is)
+refuses_taken true bytes r (inr (text, makes, inr (u, short, is))) = absurd (cc is)
+refuses_taken false bytes r is = absurd (cc is)
+
+refuses_judged : (action : command.Action) (source : List ℕ) (r : Reply) → JudgesTaken action source (Err r) → IsRefused r
+refuses_judged action source r (inl refuses) = refuses_source source r refuses
+refuses_judged action source r (inr (accepted, judges, inl refuses)) = refuses_file (file_of_action action) accepted r refuses
+refuses_judged action source r (inr (accepted, judges, inr (u, named, is))) = absurd (cc is)
+
 pub refuses_source_of : (action : command.Action) (bytes : List ℕ) (r : Reply) → JudgesSourceOf action bytes (Err r) → IsRefused r
-refuses_source_of action bytes r (inl refuses) = refuses_source bytes r refuses
-refuses_source_of action bytes r (inr (accepted, judges, inl refuses)) = refuses_file (file_of_action action) accepted r refuses
-refuses_source_of action bytes r (inr (accepted, judges, inr (u, named, is))) = absurd (cc is)
+refuses_source_of action bytes r (inl takes) = refuses_taken (makes_source action) bytes r takes
+refuses_source_of action bytes r (inr (source, takes, refuses)) = refuses_judged action source r refuses
 
 pub refuses_first : (name : List ℕ) (action : command.Action) (bytes : List ℕ) (r : Reply) → Judges (stages.source name action) bytes (Err r) → IsRefused r
 refuses_first name action bytes r (inl judges) = refuses_source_of action bytes r judges

@@ -80,9 +80,11 @@ one_told : WordsFollowFromPairs → (skipped : List ℕ) (task : Task) (accepted
 one_told law skipped (command.on_matrix task) accepted plans js r q tells others = inl (inl (one_on_matrix law skipped task accepted plans js r q tells others))
 one_told law skipped (command.watched looks) accepted plans js r q tells others = inr (tt, one_watch looks accepted plans r q tells others)
 one_told law skipped command.mutated accepted plans js r q tells others = inl (inl (one_mutation accepted plans r q tells others))
+one_told law skipped command.traced accepted plans js r q is also = inl (inl (is ∙ sym also))
 
 one_written : (text : SourceText) (accepted : Accepted) (r q : Reply) → Writes text accepted r → Writes text accepted q → r ≡ q
 one_written command.instrumented accepted r q writes also = one_text accepted r q writes also
+one_written command.adapted accepted r q is also = is ∙ sym also
 
 -- a stage ends with one reply
 one_end_reply : WordsFollowFromPairs → (skipped : List ℕ) (s : Stage) (r q : Reply) → Ends skipped s r → Ends skipped s q → OneIf (IsAt s) r q

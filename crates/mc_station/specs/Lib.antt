@@ -7,6 +7,7 @@ pub mod Records
 pub mod commands
 pub mod Justified
 pub mod Stages
+pub mod Taken
 pub mod Calls
 pub mod Laws
 pub mod Causes

@@ -13,6 +13,10 @@ use Rattle.mc_probe.specs.Tree.{Tree}
 abbrev pub program_pieces : List Tok → Tree → List (List ℕ)
 program_pieces tokens tree = spaced (text_of tokens tree) ∷ []
 
+-- a source, as one piece
+abbrev pub source_pieces : List ℕ → List (List ℕ)
+source_pieces source = source ∷ []
+
 -- the listing of a source with the verdicts on its obligations, as one piece
 abbrev pub listing_pieces : List ℕ → List Obligation → List Verdict → List (List ℕ)
 listing_pieces source os vs = listing source os vs ∷ []

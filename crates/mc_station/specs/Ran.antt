@@ -5,8 +5,13 @@ use Rattle.mc_core.specs.Matrix.{Holds, MatrixView}
 use Rattle.mc_steps.specs.Events.{Event}
 use Rattle.mc_typed.specs.Plans.{Plan}
 use Rattle.mc_meaning.specs.Seen.{told_of}
+use Rattle.mc_oblige.specs.Obligations.{obligations_of}
 use Rattle.mc_oblige.specs.Shown.{HasEvent}
+use Rattle.mc_oblige.specs.Verdicts.{AreVerdicts}
+use Rattle.mc_oblige.specs.declared.justification.Justification.{Justification}
+use Rattle.mc_probe.specs.Maps.{Map}
 use Rattle.mc_record.specs.Kept.{Kept}
+use Rattle.mc_report.specs.Report as text
 use Rattle.mc_report.specs.Report.{HasEach}
 use Rattle.mc_station.specs.Tests.{Tested, names, results, shape_of, stands, states}
 use Rattle.mc_station.specs.Source.{Accepted}
@@ -42,7 +47,7 @@ kept_in source ran = record {
   matrix = ran.matrix;
 }
 
--- each of these tests is one of so many, and beside it is the position of one of so many obligations
+-- each test that is kept is one of the tests, and the position beside it is that of an obligation
 abbrev pub AreIn : (tests obligations : ℕ) → (kept lost : List ℕ) → Type 0
 AreIn n k [] [] = ⊤
 AreIn n k (test ∷ kept) (position ∷ lost) =
@@ -55,3 +60,11 @@ pub record AreTold (accepted : Accepted) (matrix : MatrixView) (tests : Tested) 
   pub states : length tests.states ≡ length tests.names
   pub results : HasEach (length tests.names) tests.results
   pub texts : All IsUtf8 tests.names
+
+-- a report is of the events of a matrix: its obligations are those of the map, each with the
+-- verdict of these events, and the matrix has its tests
+pub record IsJudgedBy (matrix : MatrixView) (m : Map) (r : text.Report) : Type 0 where
+  pub shape : matrix.shape ≡ record { bits = m.bits; tests = length r.names }
+  pub obligations : r.obligations ≡ obligations_of m
+  pub named : List Justification
+  pub verdicts : AreVerdicts (HasEvent m matrix) m r.mode named r.verdicts

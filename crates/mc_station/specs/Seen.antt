@@ -1,7 +1,7 @@
 -- What clauses see of accepted sources and of stages.
-use Rattle.std.specs.Prelude.{◌≡◌, ◌≤◌, List, Ok, length, map, option_map, ⊤}
+use Rattle.std.specs.Prelude.{◌≡◌, ◌≤◌, ℕ, List, Ok, length, map, option_map, ⊤}
 use Rattle.sha2.specs.Sha256.{sha256}
-use Rattle.mc_command.specs.Command.{mutated, on_matrix, watched}
+use Rattle.mc_command.specs.Command.{mutated, on_matrix, traced, watched}
 use Rattle.mc_command.specs.Seen.{ActionIsInRange, IsWithin, RunIsInRange, seen_action, seen_judging, seen_matrix_task, seen_run, seen_source_text}
 use Rattle.mc_command.specs.Values.{most_watched_workers}
 use Rattle.mc_core.specs.Shape.{word_count}
@@ -53,6 +53,7 @@ seen_basis (basis.Tested task workers plans opened) =
 seen_basis (basis.Watched looks workers plans opened) =
     tested (watched looks) (seen_plans plans.items)
 seen_basis (basis.Mutated workers plans decisions) = tested mutated (seen_plans plans.items)
+seen_basis (basis.Traced workers plans) = tested traced (seen_plans plans.items)
 seen_basis (basis.Recorded judging r) = recorded (seen_judging judging) (kept_of r)
 
 abbrev pub seen_stage : Stage → StageOf
@@ -82,15 +83,16 @@ seen_tested t = record {
 
 -- ---- what the parts of a stage keep
 
+-- the source has tokens
+abbrev pub HasTokens : List ℕ → Type 0
+HasTokens text = (tokens : List Tok) × Lexes text (Ok tokens)
+
 -- the tree is the instrumented program of its plain program and the map
 pub record HasItsTree (a : Accepted) : Type 0 where
   pub short : length a.source.now ≤ most_source_bytes
+  pub tokens : HasTokens a.source.now
   pub sound : IsSound (program_of a.tree.program)
   pub tree : table.IsInstrumented (program_of a.tree.program) (map_of a.map) (tree_of a.tree)
-
--- the source has tokens
-abbrev pub HasTokens : Accepted → Type 0
-HasTokens a = (tokens : List Tok) × Lexes a.source.now (Ok tokens)
 
 -- the plans are tests of the program, with their names
 pub record ArePlanned (a : Accepted) (plans : List TestPlan) : Type 0 where
@@ -116,8 +118,8 @@ pub record AreMutable (accepted : Accepted) (ds : List code.Decision) : Type 0 w
   pub decisions : AreDecisions (program_of accepted.tree.program).functions (map decision_of ds)
   pub few : count (program_of accepted.tree.program) ≤ most_mutants
 
--- what the last stage stands on: tests of the program, and shared words for them or the decisions
--- whose mutants they are tried on, or a record
+-- what the last stage stands on: tests of the program, and shared words for them, the decisions
+-- whose mutants they are tried on, or nothing more; or a record
 abbrev pub IsBasis : Accepted → Basis → Type 0
 IsBasis accepted (basis.Tested task workers plans opened) =
     IsWithin 1 most_workers workers × (ArePlanned accepted plans.items
@@ -128,6 +130,8 @@ IsBasis accepted (basis.Watched looks workers plans opened) =
 IsBasis accepted (basis.Mutated workers plans decisions) =
     IsWithin 1 most_workers workers × (ArePlanned accepted plans.items
     × AreMutable accepted decisions.items)
+IsBasis accepted (basis.Traced workers plans) =
+    IsWithin 1 most_workers workers × ArePlanned accepted plans.items
 IsBasis accepted (basis.Recorded judging r) = IsRecordIn accepted r
 
 -- the justifications are of the program's obligations
@@ -137,7 +141,7 @@ AreReasons accepted js = AreFit (length (obligations_of (map_of accepted.map))) 
 abbrev pub IsReady : Stage → Type 0
 IsReady stage.Usage = ⊤
 IsReady (stage.Source name action) = ActionIsInRange action
-IsReady (stage.Writes text accepted) = HasItsTree accepted × HasTokens accepted
+IsReady (stage.Writes text accepted) = HasItsTree accepted
 IsReady (stage.Tests run accepted) = RunIsInRange run × HasItsTree accepted
 IsReady (stage.Left name other accepted) = HasItsTree accepted
 IsReady (stage.Right name accepted first) = HasItsTree accepted × IsRecordIn accepted first

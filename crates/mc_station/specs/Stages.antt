@@ -20,6 +20,7 @@ use Rattle.mc_station.specs.Records.{JudgesRecord}
 use Rattle.mc_station.specs.Named.{JudgesSourceOf}
 use Rattle.mc_station.specs.Source.{Accepted}
 use Rattle.mc_station.specs.Tests.{MatrixFits, JudgesTests}
+use Rattle.mc_station.specs.commands.Adapt.{WritesSource}
 use Rattle.mc_station.specs.commands.Analyse.{Analyses}
 use Rattle.mc_station.specs.commands.Instrument.{Instruments}
 use Rattle.mc_station.specs.commands.Merge.{Joins, Merges}
@@ -27,6 +28,7 @@ use Rattle.mc_station.specs.commands.Mutate.{FewMutants, Mutates}
 use Rattle.mc_station.specs.commands.Record.{Records}
 use Rattle.mc_station.specs.commands.Reduce.{Reduces}
 use Rattle.mc_station.specs.commands.Report.{JudgesRun}
+use Rattle.mc_station.specs.commands.Results.{Traces}
 use Rattle.mc_station.specs.commands.Selfload.{LoadsItself}
 use Rattle.mc_station.specs.commands.Vectors.{Lists}
 use Rattle.mc_station.specs.commands.Watch.{Watches}
@@ -59,7 +61,7 @@ pub data Stage : Type 0 where
   last : Accepted → Basis → List Justification → Stage
   -- both records are accepted, and this is the record of both
   merged : Kept → Stage
-  -- no file is asked for: the program makes a source of so many functions and its tests
+  -- no file is asked for: the program makes a source of this number of functions and its tests
   load : (count workers : ℕ) → Stage
 
 -- ---- files
@@ -129,7 +131,7 @@ requests_left (last accepted basis js) = []
 requests_left (merged both) = []
 requests_left (load count workers) = []
 
--- the stage asks for a file that may have so many bytes
+-- the stage asks for a file that may have this number of bytes
 abbrev pub AsksUpTo : Stage → ℕ → Type 0
 AsksUpTo stage n = (file : File) × (file_of stage ≡ Some file) × (n ≤ limit_of file.kind)
 
@@ -212,10 +214,12 @@ Tells skipped (command.on_matrix task) accepted plans js =
     TellsOnMatrix skipped task accepted plans js
 Tells skipped (command.watched looks) accepted plans js = Watches looks accepted plans
 Tells skipped command.mutated accepted plans js = Mutates accepted plans
+Tells skipped command.traced accepted plans js = Traces accepted plans
 
 -- the text that is made of a source alone
 abbrev pub Writes : SourceText → Accepted → Reply → Type 0
 Writes command.instrumented accepted = Instruments accepted
+Writes command.adapted accepted = WritesSource accepted
 
 -- the reply of a stage that asks for no file
 abbrev pub Ends : (skipped : List ℕ) → Stage → Reply → Type 0

@@ -1,10 +1,12 @@
 pub mod Report
 pub mod Vectors
 pub mod Record
+pub mod Results
 pub mod Merge
 pub mod Mutate
 pub mod Analyse
 pub mod Instrument
+pub mod Adapt
 pub mod Selfload
 pub mod Reduce
 pub mod Watch

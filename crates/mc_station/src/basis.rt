@@ -16,6 +16,8 @@ pub enum Basis<'a> {
     Watched(u32, u32, Vec<TestPlan>, Opened),
     /// The decisions on whose mutants the tests are tried.
     Mutated(u32, Vec<TestPlan>, Vec<Decision>),
+    /// Nothing more: it is told what the calls of the tests did.
+    Traced(u32, Vec<TestPlan>),
     /// A record, and how the obligations are judged by it.
     Recorded(Judging<'a>, Record),
 }

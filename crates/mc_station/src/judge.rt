@@ -1,8 +1,8 @@
 //! How a stage judges the bytes of the file that it asked for.
 ghost use Rattle.std.specs.Prelude.{◌≡◌, ◌≤◌, List, Result, Err, IfOk, Some, length, option_map};
 ghost use Rattle.mc_tests.specs.Seen.{seen_plans};
-ghost use Rattle.mc_command.specs.Command.{mutated, on_matrix, watched};
-ghost use Rattle.mc_command.specs.Seen.{ActionIsInRange, IsWithin, RunIsInRange, seen_action, seen_matrix_task, seen_run, seen_task, seen_telling};
+ghost use Rattle.mc_command.specs.Command.{mutated, on_matrix, traced, watched};
+ghost use Rattle.mc_command.specs.Seen.{ActionIsInRange, IsWithin, RunIsInRange, seen_action, seen_matrix_task, seen_run, seen_task};
 ghost use Rattle.mc_command.specs.Values.{most_watched_workers};
 ghost use Rattle.mc_oblige.specs.declared.justification.Justification.{Justification};
 ghost use Rattle.mc_justify.specs.Faults.{Fault};
@@ -14,20 +14,22 @@ ghost use Rattle.station_replies.specs.Reply.{refusal};
 ghost use Rattle.station_replies.specs.Seen.{Gives};
 ghost use Rattle.station_replies.specs.declared.status.Status.TheVariants.{JustificationsRefused};
 ghost use Rattle.mc_station.specs.Justified.{reasons_line};
-ghost use Rattle.mc_station.specs.Named.{HasFile, JudgesSourceOf, file_of_action, file_of_task, file_told};
-ghost use Rattle.mc_station.specs.Seen.{AreMutable, ArePlanned, AreReasons, HasTokens, IsBasis, HasItsTree, IsOpened, IsReady, seen_accepted, seen_basis, seen_stage};
+ghost use Rattle.mc_station.specs.Named.{HasFile, JudgesTaken, file_of_action, file_of_task};
+ghost use Rattle.mc_station.specs.Seen.{AreMutable, ArePlanned, AreReasons, IsBasis, HasItsTree, IsOpened, IsReady, seen_accepted, seen_basis, seen_stage};
 ghost use Rattle.mc_station.specs.Stages.{AfterPlans, AsksUpTo, Judges, JudgesReasons, after_source, justified_by, reasons, source, tests};
+ghost use Rattle.mc_station.specs.Taken.{JudgesAt, TakesAt};
 ghost use Rattle.mc_station.specs.Tests.{MatrixFits, JudgesTests};
 ghost use Rattle.mc_station.specs.commands.Mutate.{FewMutants};
 
 use crate::accepted::Accepted;
 use crate::basis::Basis;
+use crate::commands::adapt::make_source;
 use crate::opened::Opened;
 use crate::records::{after_kept, after_left, after_right};
 use crate::source::{decisions_again, judge_source};
 use crate::stage::{Stage, with_basis};
 use decide_rules::Decision;
-use mc_command::{Action, MatrixTask, Run, Task, Telling};
+use mc_command::{Action, MatrixTask, Run, Task};
 use mc_core::Shape;
 use mc_cover::{OpenFault, open};
 use mc_justify::{JustifyFault, read_justifications};
@@ -100,7 +102,6 @@ pub fn open_for<'a>(
 fn with_source<'a>(action: Action<'a>, accepted: Accepted<'a>) -> Stage<'a>
     requires range { ActionIsInRange action }
     requires instrumented { HasItsTree accepted }
-    requires tokens { HasTokens accepted }
     ensures stage { seen_stage result
         ≡ after_source (seen_action action.entry) (seen_accepted accepted.entry) }
     ensures ready { IsReady result }
@@ -114,20 +115,11 @@ fn with_source<'a>(action: Action<'a>, accepted: Accepted<'a>) -> Stage<'a>
 }
 
 // The file of whose obligations alone something is told, where one is named.
-fn file_told(telling: Telling<'_>) -> Option<&str>
-    ensures { option_map (λ name. name.now) result ≡ file_told (seen_telling telling.entry) }
-{
-    match telling {
-        Telling::Functions { of } => of,
-        Telling::Report(_) | Telling::Listing => None,
-    }
-}
-
 fn file_of_task(task: Task<'_>) -> Option<&str>
     ensures { option_map (λ name. name.now) result ≡ file_of_task (seen_task task.entry) }
 {
     match task {
-        Task::OnMatrix(MatrixTask::Judge(judging)) => file_told(judging.telling),
+        Task::OnMatrix(MatrixTask::Judge(judging)) => judging.telling.file(),
         _ => None,
     }
 }
@@ -137,7 +129,7 @@ fn file_of_action(action: Action<'_>) -> Option<&str>
 {
     match action {
         Action::Run(run) => file_of_task(run.task),
-        Action::Analyse { judging, .. } => file_told(judging.telling),
+        Action::Analyse { judging, .. } => judging.telling.file(),
         Action::Write(_) | Action::Merge { .. } => None,
     }
 }
@@ -180,7 +172,7 @@ fn has_file<'a>(
     }
 }
 
-// The accepted source of a command.
+// What is taken as the source of a command is accepted, or refused.
 fn source_of<'a>(
     alloc: Global,
     action: Action<'a>,
@@ -188,9 +180,8 @@ fn source_of<'a>(
 ) -> Result<Accepted<'a>, Stop<'a>>
     requires short { length bytes.now ≤ most_source_bytes }
     ensures judges { Gives seen_accepted
-        (JudgesSourceOf (seen_action action.entry) bytes.now) result }
+        (JudgesTaken (seen_action action.entry) bytes.now) result }
     ensures ready { IfOk result HasItsTree }
-    ensures tokens { IfOk result HasTokens }
 {
     let accepted = judge_source(alloc, bytes)?;
     match has_file(alloc, file_of_action(action), &accepted) {
@@ -212,7 +203,7 @@ fn after_source<'a>(
     requires range { ActionIsInRange action }
     requires short { length bytes.now ≤ most_source_bytes }
     ensures judges { Gives seen_stage
-        (Judges (source name.now (seen_action action.entry)) bytes.now) result }
+        (JudgesAt (source name.now (seen_action action.entry)) bytes.now) result }
     ensures ready { IfOk result IsReady }
 {
     let accepted = source_of(alloc, action, bytes)?;
@@ -312,6 +303,33 @@ fn with_mutants<'a>(
     }
 }
 
+// The stage after tests of whose calls it is told what they did, where a matrix has room for them.
+fn with_traces<'a>(
+    alloc: Global,
+    workers: u32,
+    accepted: Accepted<'a>,
+    plans: Vec<TestPlan>,
+) -> Result<Stage<'a>, Stop<'a>>
+    requires workers { IsWithin 1 most_workers workers }
+    requires instrumented { HasItsTree accepted }
+    requires planned { ArePlanned accepted plans.items }
+    ensures judges { Gives seen_stage (AfterPlans traced
+        (seen_accepted accepted.entry) (seen_plans plans.items)) result }
+    ensures ready { IfOk result IsReady }
+{
+    match open_for(alloc, &accepted, &plans) {
+        Ok(opened) => {
+            drop(opened);
+            let basis = Basis::Traced(workers, plans);
+            Ok(with_basis(alloc, None, accepted, basis))
+        }
+        Err(stop) => {
+            drop(accepted);
+            Err(stop)
+        }
+    }
+}
+
 // The stage after the tests.
 fn with_plans<'a>(
     alloc: Global,
@@ -330,6 +348,7 @@ fn with_plans<'a>(
         Task::OnMatrix(task) => with_matrix(alloc, task, run.workers, accepted, plans),
         Task::Watch { looks } => with_looks(alloc, looks, run.workers, accepted, plans),
         Task::Mutate => with_mutants(alloc, run.workers, accepted, plans),
+        Task::Trace => with_traces(alloc, run.workers, accepted, plans),
     }
 }
 
@@ -425,11 +444,11 @@ fn after_reasons<'a>(
     }
 }
 
-/// The stage that follows where the bytes are accepted, or why they are refused.
-pub fn judge<'a>(alloc: Global, stage: Stage<'a>, bytes: &'a [u8]) -> Result<Stage<'a>, Stop<'a>>
+// The stage that follows where what is taken of a file is accepted, or why it is refused.
+fn judge<'a>(alloc: Global, stage: Stage<'a>, bytes: &'a [u8]) -> Result<Stage<'a>, Stop<'a>>
     requires asks { AsksUpTo (seen_stage stage) (length bytes.now) }
     requires ready { IsReady stage }
-    ensures judges { Gives seen_stage (Judges (seen_stage stage.entry) bytes.now) result }
+    ensures judges { Gives seen_stage (JudgesAt (seen_stage stage.entry) bytes.now) result }
     ensures ready { IfOk result IsReady }
 {
     match stage {
@@ -443,5 +462,47 @@ pub fn judge<'a>(alloc: Global, stage: Stage<'a>, bytes: &'a [u8]) -> Result<Sta
         }
         Stage::Usage | Stage::Writes(..) | Stage::Last(..) | Stage::Merged(..) | Stage::Load(..) =>
             unreachable!(),
+    }
+}
+
+// What is taken of the bytes of the file that a stage asks for, or why there is nothing.
+#[tactic(auto, using(crate::proofs::Taking::asks_up_to, crate::proofs::Taking::made_up_to))]
+fn taken<'a>(alloc: Global, stage: &Stage<'_>, bytes: Vec<u8>) -> Result<Vec<u8>, Stop<'a>>
+    requires asks { AsksUpTo (seen_stage stage.now) (length bytes.items) }
+    ensures takes { Gives (λ text. text.items)
+        (TakesAt (seen_stage stage.now) bytes.items) result }
+    ensures asks { IfOk result (λ text. AsksUpTo (seen_stage stage.now) (length text.items)) }
+{
+    if stage.makes_source() {
+        let made = make_source(alloc, &bytes);
+        drop(bytes);
+        made
+    } else {
+        Ok(bytes)
+    }
+}
+
+/// The stage that follows where the bytes of the file that a stage asks for are accepted, or why
+/// they are refused. What is taken of them is kept in the slot.
+pub fn accept<'a>(
+    alloc: Global,
+    stage: Stage<'a>,
+    bytes: Vec<u8>,
+    slot: &'a mut Vec<u8>,
+) -> Result<Stage<'a>, Stop<'a>>
+    requires asks { AsksUpTo (seen_stage stage) (length bytes.items) }
+    requires ready { IsReady stage }
+    ensures judges { Gives seen_stage (Judges (seen_stage stage.entry) bytes.items) result }
+    ensures ready { IfOk result IsReady }
+{
+    match taken(alloc, &stage, bytes) {
+        Ok(text) => {
+            *slot = text;
+            judge(alloc, stage, slot)
+        }
+        Err(stop) => {
+            drop(stage);
+            Err(stop)
+        }
     }
 }

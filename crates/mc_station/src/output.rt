@@ -21,6 +21,8 @@ pub enum Output<'a> {
     Record(Writable),
     /// The text of an instrumented program.
     Program(Printable<'a>),
+    /// A source.
+    Source(&'a [u8]),
     /// The lines of a source, each after a margin.
     Listing(Listed<'a>),
 }
@@ -36,6 +38,7 @@ impl Output<'_> {
             Output::Lines(lines) => put_lines(lines, out),
             Output::Record(writable) => write_record(&writable.kept, out),
             Output::Program(printable) => print(&printable.tokens, &printable.tree, out),
+            Output::Source(source) => out.put(source),
             Output::Listing(listed) => {
                 write_listing(listed.source, &listed.obligations, &listed.verdicts, out)
             }

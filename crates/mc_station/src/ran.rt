@@ -75,7 +75,7 @@ pub fn number_of(states: &[TestState]) -> u8
     if all_passed(states) { 0 } else { 1 }
 }
 
-/// Runs the tests by so many workers, which record in the shared words, and closes these.
+/// Runs the tests by this number of workers, which record in the shared words, and closes these.
 pub fn run_all<R: Threads + Sync, G: Gate, C: Closer>(
     alloc: Global,
     means: Means<'_, R, G, C>,

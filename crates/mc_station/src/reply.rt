@@ -1,4 +1,4 @@
-//! Replies.
+//! What is answered: a status, a line on what is refused, and what goes to the output.
 ghost use Rattle.std.specs.Prelude.{◌≡◌, ◌≤◌, IfOk, length};
 ghost use Rattle.mc_lex.specs.Tokens.{toks_of};
 ghost use Rattle.mc_limits.specs.Limits.{most_source_bytes};
@@ -8,7 +8,7 @@ ghost use Rattle.mc_record.specs.Kept.{IsKept};
 ghost use Rattle.mc_record.specs.Lines.{record_lines};
 ghost use Rattle.mc_record.specs.Seen.{kept_of};
 ghost use Rattle.station_replies.specs.Reply.{cannot_read, written};
-ghost use Rattle.mc_station.specs.Output.{listing_pieces, program_pieces};
+ghost use Rattle.mc_station.specs.Output.{listing_pieces, program_pieces, source_pieces};
 ghost use Rattle.station_replies.specs.Reply as spec;
 ghost use Rattle.station_replies.specs.Seen.{IsReplyTo, reply_to, seen_file};
 ghost use Rattle.mc_station.specs.Replied.{seen_reply};
@@ -65,6 +65,17 @@ impl<'a> Reply<'a> {
             status: Status::written(0),
             diag: Vec::new(alloc),
             out: Output::Program(Printable { tokens, tree }),
+        }
+    }
+
+    /// A source for the output.
+    pub fn of_source(alloc: Global, source: &'a [u8]) -> Reply<'a>
+        ensures { seen_reply result ≡ written 0 (source_pieces source.entry.now) }
+    {
+        Reply {
+            status: Status::written(0),
+            diag: Vec::new(alloc),
+            out: Output::Source(source),
         }
     }
 

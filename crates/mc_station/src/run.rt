@@ -7,7 +7,7 @@ ghost use Rattle.mc_station.specs.Calls.{Leads};
 ghost use Rattle.mc_station.specs.Seen.{IsReady, seen_stage};
 ghost use Rattle.mc_station.specs.Stages.{requests_left};
 
-use crate::judge::judge;
+use crate::judge::accept;
 use crate::means::Means;
 use crate::reply::Reply;
 use crate::stage::Stage;
@@ -29,8 +29,9 @@ pub fn run<'a, S: Store, R: Threads + Sync, G: Gate, C: Closer>(
 ) -> Result<Reply<'a>, AllocError>
     requires room { length (requests_left (seen_stage stage)) ≤ length slots.old }
     requires ready { IsReady stage }
-    ensures leads { Leads (C.skipped means.entry.closer.now) (S.state store.old).contents (seen_stage stage.entry)
-        (S.state store.old).asked (outcome_of result) (S.state store.new).asked }
+    ensures leads { Leads (C.skipped means.entry.closer.now) (S.state store.old).contents
+        (seen_stage stage.entry) (S.state store.old).asked
+        (outcome_of result) (S.state store.new).asked }
     ensures unreadable { (outcome_of result).status ≡ CannotRead
         → Rose (S.state store.old).faults (S.state store.new).faults }
     ensures texts { IfOk result (λ reply. reply.status ≢ OutOfMemory) }
@@ -44,13 +45,10 @@ pub fn run<'a, S: Store, R: Threads + Sync, G: Gate, C: Closer>(
         unreachable!();
     };
     match store.load(alloc, file.name, file.kind.limit()) {
-        Ok(bytes) => {
-            *slot = bytes;
-            match judge(alloc, stage, slot) {
-                Ok(stage) => run(alloc, means, store, stage, later),
-                Err(stop) => Reply::of_stop(alloc, &stop),
-            }
-        }
+        Ok(bytes) => match accept(alloc, stage, bytes, slot) {
+            Ok(stage) => run(alloc, means, store, stage, later),
+            Err(stop) => Reply::of_stop(alloc, &stop),
+        },
         Err(LoadFault::TooLong { .. }) => {
             drop(stage);
             Reply::of_refusal(alloc, &Refusal::TooLong(file))

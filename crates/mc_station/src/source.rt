@@ -14,7 +14,7 @@ ghost use Rattle.decide_rules.specs.Seen.{decision_of};
 ghost use Rattle.station_replies.specs.Phases.{Then};
 ghost use Rattle.station_replies.specs.Seen.{Gives};
 ghost use Rattle.station_replies.specs.Texts.{start_of};
-ghost use Rattle.mc_station.specs.Seen.{HasItsTree, seen_accepted};
+ghost use Rattle.mc_station.specs.Seen.{HasItsTree, HasTokens, seen_accepted};
 ghost use Rattle.mc_station.specs.Source.{Accepts, Admits, Decides, JudgesSource, Lexes, Maps, PathsAreFew, Parses, Types};
 
 use crate::accepted::Accepted;
@@ -167,6 +167,7 @@ fn mapped<'a>(
     decisions: Vec<Decision>,
 ) -> Result<Accepted<'a>, Stop<'a>>
     requires short { length source.now ≤ most_source_bytes }
+    requires tokens { HasTokens source.now }
     requires decisions { AreDecisions (program_of program.now).functions
         (map decision_of decisions.items) }
     requires numbered { All (λ d. IsNumbered (tree_of d.tree)) decisions.items }

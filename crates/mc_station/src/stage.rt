@@ -2,20 +2,24 @@
 ghost use Rattle.std.specs.Prelude.{◌≡◌, None, IfOk, option_map};
 ghost use Rattle.mc_command.specs.Command.{command_of};
 ghost use Rattle.mc_command.specs.Line.{words_of};
-ghost use Rattle.mc_command.specs.Seen.{IsWithin, seen_matrix_task, seen_source_text};
+ghost use Rattle.mc_command.specs.Seen.{IsWithin, seen_action, seen_matrix_task, seen_source_text};
 ghost use Rattle.mc_limits.specs.Limits.{most_workers};
 ghost use Rattle.mc_tests.specs.Seen.{seen_plans};
 ghost use Rattle.station_replies.specs.Seen.{seen_file};
 ghost use Rattle.mc_station.specs.Replied.{seen_reply};
-ghost use Rattle.mc_station.specs.Seen.{ArePlanned, AreReasons, IsBasis, HasItsTree, HasTokens, IsOpened, IsReady, seen_accepted, seen_basis, seen_stage};
+ghost use Rattle.mc_station.specs.Seen.{ArePlanned, AreReasons, IsBasis, HasItsTree, IsOpened, IsReady, seen_accepted, seen_basis, seen_stage};
+ghost use Rattle.mc_station.specs.Named.{makes_source};
+ghost use Rattle.mc_station.specs.Taken.{makes_at};
 ghost use Rattle.mc_station.specs.Stages.{Ends, TellsOnMatrix, Writes, after_tests, file_of, first_stage, last};
 
 use crate::accepted::Accepted;
 use crate::basis::Basis;
+use crate::commands::adapt::write_source;
 use crate::commands::analyse::analyse;
 use crate::commands::instrument::instrument;
 use crate::commands::merge::merge;
 use crate::commands::mutate::mutate;
+use crate::commands::results::results;
 use crate::commands::selfload::{Load, selfload};
 use crate::commands::watch::watch;
 use crate::means::Means;
@@ -92,6 +96,19 @@ pub fn first_stage<'a>(alloc: Global, line: &'a [&'a str]) -> Result<Stage<'a>, 
     }
 }
 
+// Whether the source of the action is made of the bytes of its file.
+fn makes_source(action: Action<'_>) -> bool
+    ensures { result ≡ makes_source (seen_action action.entry) }
+{
+    match action {
+        Action::Write(SourceText::Adapted) => true,
+        Action::Write(SourceText::Instrumented)
+        | Action::Run(_)
+        | Action::Merge { .. }
+        | Action::Analyse { .. } => false,
+    }
+}
+
 // What a task tells of the matrix of its tests once all of them have run.
 fn tested<'a, R: Threads + Sync, G: Gate, C: Closer>(
     alloc: Global,
@@ -155,6 +172,7 @@ fn finished<'a, R: Threads + Sync, G: Gate, C: Closer>(
         Basis::Mutated(workers, plans, decisions) => {
             mutate(alloc, means, workers, accepted, &plans, &decisions)
         }
+        Basis::Traced(workers, plans) => results(alloc, means, workers, accepted, &plans),
         Basis::Recorded(asked, kept) => analyse(alloc, asked, accepted, kept, justifications),
     }
 }
@@ -166,12 +184,12 @@ fn write<'a>(
     accepted: Accepted<'a>,
 ) -> Result<Reply<'a>, AllocError>
     requires instrumented { HasItsTree accepted }
-    requires tokens { HasTokens accepted }
     ensures { IfOk result (λ reply.
         Writes (seen_source_text text) (seen_accepted accepted.entry) (seen_reply reply)) }
 {
     match text {
         SourceText::Instrumented => instrument(alloc, accepted),
+        SourceText::Adapted => Ok(write_source(alloc, accepted)),
     }
 }
 
@@ -202,6 +220,25 @@ impl<'a> Stage<'a> {
             | Stage::Last(..)
             | Stage::Merged(..)
             | Stage::Load(..) => None,
+        }
+    }
+
+    /// Whether the source is made of the bytes of the file that is asked for at this stage.
+    pub fn makes_source(&self) -> bool
+        ensures { result ≡ makes_at (seen_stage self.now) }
+    {
+        match self {
+            Stage::Source(_, action) => makes_source(*action),
+            Stage::Usage
+            | Stage::Writes(..)
+            | Stage::Tests(..)
+            | Stage::Left(..)
+            | Stage::Right(..)
+            | Stage::Kept(..)
+            | Stage::Reasons(..)
+            | Stage::Last(..)
+            | Stage::Merged(..)
+            | Stage::Load(..) => false,
         }
     }
 

@@ -66,16 +66,17 @@ fn reply_to<'a, 'w, S: Store, R: Threads + Sync, G: Gate, C: Closer>(
 /// its probes as C text, `record` what is kept of the tests, `merge` the record of two records,
 /// `analyse` the report of a record, `selfload` the summary of a source that the program makes
 /// itself, `watch` how much is recorded at each look and at the end, `reduce` the tests that are
-/// kept, `mutate` which test kills which mutant, `list` the source with its marks, and `functions`
-/// how many obligations are met in each function. Everything is computed, and all memory taken,
-/// before the first `put`; a line is one `put`, and of C text a token is one, and so is what stands
-/// after it.
+/// kept, `mutate` which test kills which mutant, `list` the source with its marks, `functions` how
+/// many obligations are met in each function, `needs` which vectors would show the missing ones,
+/// `results` what each call of the tests did, and `adapt` the source that is made of a preprocessed
+/// text. Everything is computed, and all memory taken, before the first `put`; a line is one `put`,
+/// and of C text a token is one, and so is what stands after it.
 ///
 /// Tests run on as many workers as the words ask for, each in a thread of its own where one can be
 /// made; but for `mutate` there are no more workers than tests. A worker passes the gate with the
 /// number of each test before it runs it, and the watcher of `watch` with 4,096 after its first
-/// look and one more after each. Of the commands that run tests but `watch` and `mutate` the closer
-/// makes the matrix of what was recorded; that of the program skips no test.
+/// look and one more after each. Of the commands that run tests but `watch`, `mutate` and
+/// `results` the closer makes the matrix of what was recorded; that of the program skips no test.
 pub fn station<R: Threads + Sync, S: Store, K: Sink, E: Sink, G: Gate, C: Closer>(
     rt: &R,
     alloc: Global,
@@ -90,13 +91,15 @@ pub fn station<R: Threads + Sync, S: Store, K: Sink, E: Sink, G: Gate, C: Closer
     // whole, and the store was asked for the files that it stands on, in order, each with its limit
     // and after the files before it were accepted. With 6 the line is on the last of them; with 8
     // there are no texts.
-    ensures told { result ≢ 7 → Told (call_of words.now (C.skipped closer.now) (S.state store.old)) result
+    ensures told { result ≢ 7
+        → Told (call_of words.now (C.skipped closer.now) (S.state store.old)) result
         (S.state store.old).asked (S.state store.new).asked
         (K.written out.old) (K.written out.new) (E.written diag.old) (E.written diag.new) }
 
     // With 7 first parts of the texts of such a reply were put. Where they say that a file cannot
     // be read, the store failed in this call.
-    ensures part { result ≡ 7 → ToldPart (call_of words.now (C.skipped closer.now) (S.state store.old))
+    ensures part { result ≡ 7
+        → ToldPart (call_of words.now (C.skipped closer.now) (S.state store.old))
         (S.state store.old) (S.state store.new)
         (K.written out.old) (K.written out.new) (E.written diag.old) (E.written diag.new) }
 
@@ -108,7 +111,8 @@ pub fn station<R: Threads + Sync, S: Store, K: Sink, E: Sink, G: Gate, C: Closer
         ⊎ Rose (E.faults diag.old) (E.faults diag.new) }
 
     // Where nothing failed, the status is that of the reply that is called for, or 8.
-    ensures complete { (reply : CalledFor) → IsKnown (call_of words.now (C.skipped closer.now) (S.state store.old))
+    ensures complete { (reply : CalledFor)
+        → IsKnown (call_of words.now (C.skipped closer.now) (S.state store.old))
         → CallsFor (call_of words.now (C.skipped closer.now) (S.state store.old)) reply
         → ¬ (Rose (S.state store.old).faults (S.state store.new).faults)
         → ¬ (Rose (K.faults out.old) (K.faults out.new))

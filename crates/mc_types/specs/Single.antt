@@ -9,6 +9,6 @@ abbrev pub single_in : Initializer → Option Expression
 single_in (Single e) = Some e
 single_in (Braced items span) = None
 
--- the first so many items are for these parts
+-- the first items, of this number, are for these parts
 abbrev pub AreParts : ℕ → PartTypes → Parts → Type 0
 AreParts count found parts = (n : ℕ) → n < count → part_at found n ≡ first_part (parts_from n parts)

@@ -1,4 +1,4 @@
-//! Unique-cause pairs.
+//! The pair that shows a condition's independence by unique cause.
 
 ghost use Rattle.std.specs.Prelude.{
   ◌≡◌,

@@ -1,4 +1,4 @@
-//! Integer types.
+//! The integer types of C, their widths and ranges.
 
 ghost use Rattle.std.specs.Prelude.{◌≡◌, IsTrue};
 ghost use Rattle.mc_value.specs.IntTypes.{InRange, in_range, width_of, signed_of, least_of, greatest_of};

@@ -1,4 +1,4 @@
-//! Shifts.
+//! What a shift gives (C17 6.5.7).
 
 ghost use Rattle.std.specs.Prelude.{◌≡◌, ◌<◌, IfOk};
 ghost use Rattle.mc_value.specs.IntTypes.{InRange, width_of};

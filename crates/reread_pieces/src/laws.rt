@@ -1,4 +1,4 @@
-//! Worked texts.
+//! Pieces of worked texts. The functions do nothing: each has a law as its contract.
 ghost use Rattle.reread_pieces.specs.Worked.{TheFunction, TheMisplaced, TheProduct};
 
 /// `int f(int a,int b){return a&&b;}` with all its probes has the pieces that the table inserts.

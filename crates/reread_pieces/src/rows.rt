@@ -47,7 +47,7 @@ fn begins_body(site: Site) -> bool
     site.innermost.is_none() && matches!(site.before, Before::Parenthesis)
 }
 
-/// The tokens after so many.
+/// The tokens after this number of them.
 pub(crate) fn after<'t, 'a>(count: usize, tokens: &'t [Token<'a>]) -> &'t [Token<'a>]
     ensures { toks_of result.now ≡ spec.after_tokens count (toks_of tokens.now) }
 {

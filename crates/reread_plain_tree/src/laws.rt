@@ -1,4 +1,4 @@
-//! Worked trees.
+//! Worked trees without probes. The functions do nothing: each has a law as its contract.
 ghost use Rattle.reread_plain_tree.specs.Worked.{BracesOfAProbe, BracesOfTheSource, GroupOfAProbe};
 
 /// In `if(a){if(b)s;}else t;` with braces of a probe the `else` stays with the outer `if`.

@@ -1,4 +1,4 @@
-//! Counted statements.
+//! What a probe has to know of the statement that it counts.
 ghost use Rattle.std.specs.Prelude.{◌≡◌, ◌||◌, map};
 ghost use Rattle.mc_tree.specs.Tree.{BlockItems};
 ghost use Rattle.mc_tree.specs.Units.{block_from, block_item_of, declaration_of, statement_of};

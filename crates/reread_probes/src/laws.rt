@@ -1,4 +1,4 @@
-//! Worked texts.
+//! Probes of worked texts. The functions do nothing: each has a law as its contract.
 ghost use Rattle.reread_probes.specs.Worked.{
   TheBraces,
   TheChoice,

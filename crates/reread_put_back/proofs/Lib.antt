@@ -6,3 +6,4 @@ pub mod Fits
 pub mod Nesting
 pub mod Around
 pub mod Programs
+pub mod Strays

@@ -1,5 +1,5 @@
 -- The copy of a program with probes that were put back.
-use Rattle.std.proofs.Common.{◌≡◌, ◌∙◌, sym, ap, subst, ℕ, List, [], ◌∷◌, map, Option, None}
+use Rattle.std.proofs.Common.{◌≡◌, ◌≢◌, ◌∙◌, ◌-◌, sym, ap, subst, ℕ, List, [], ◌∷◌, length, map, remove, Option, Some, None}
 use Rattle.mc_value.specs.declared.object_type.ObjType.{ObjType}
 use Rattle.mc_typed.specs.declared.functions.Function.{Function}
 use Rattle.mc_typed.specs.declared.objects.StaticObject.{StaticObject}
@@ -15,10 +15,10 @@ use Rattle.mc_probe.specs.Trees.{tree_of}
 use Rattle.mc_probe.specs.Views as probed
 use Rattle.mc_probe.specs.WellFormed.{IsWellFormed}
 use Rattle.mc_probe.proofs.ErasedPrograms.{programs_erase}
-use Rattle.reread_put_back.specs.Pens.{Pen, begun, each}
-use Rattle.reread_put_back.specs.Back.{back_function, first_fault}
+use Rattle.reread_put_back.specs.Pens.{Pen, begun, each, first_of}
+use Rattle.reread_put_back.specs.Back.{back_function, faults, first_fault}
 use Rattle.reread_put_back.proofs.Erased.{functions_away}
-use Rattle.reread_put_back.proofs.Fits.{IsClear, functions_fit, some_fault}
+use Rattle.reread_put_back.proofs.Fits.{IsClear, functions_fit}
 
 -- with these functions
 abbrev pub whole : t.Program → List tree.Function → tree.Program
@@ -55,13 +55,17 @@ with_bits bits q = record { program = q; bits = bits }
 abbrev pub IsFit : ℕ → Parts → Type 0
 IsFit bits parts = IsWellFormed (tree_of (record { program = parts; bits = bits }))
 
-no_fault : (left : List Placed) (fault : Option ℕ) → first_fault left fault ≡ None → fault ≡ None
-no_fault [] fault h = h
-no_fault (q ∷ rest) fault h = some_fault q.word fault h
+never : (word : ℕ) (fault : Option ℕ) → first_of word fault ≢ None
+never word None h = cc
+never word (Some other) h = cc
 
-pub copied_fits : (x : t.Program) (placed : List Placed) (s : Pen) (parts : Parts) (bits : ℕ) → IsSound x → Copies x placed s parts → first_fault s.left s.fault ≡ None → IsFit bits parts
+no_fault : (others : List Placed → Option ℕ) (placed left : List Placed) (fault : Option ℕ) → first_fault others placed left fault ≡ None → fault ≡ None
+no_fault others placed [] fault h = h
+no_fault others placed (q ∷ rest) fault h = absurd (never q.word (others (remove placed (length placed - length (q ∷ rest)))) h)
+
+pub copied_fits : (x : t.Program) (placed : List Placed) (s : Pen) (parts : Parts) (bits : ℕ) → IsSound x → Copies x placed s parts → first_fault (faults (length placed) x) placed s.left s.fault ≡ None → IsFit bits parts
 copied_fits x placed s parts bits h e none =
-    let clear : IsClear (each back_function x.functions (begun placed)).1 = ap (λ (w : List tree.Function × Pen). w.1.fault) e.0 ∙ no_fault s.left s.fault none in
+    let clear : IsClear (each back_function x.functions (begun placed)).1 = ap (λ (w : List tree.Function × Pen). w.1.fault) e.0 ∙ no_fault (faults (length placed) x) placed s.left s.fault none in
     subst IsWellFormed (ap (with_bits bits) (sym (copied x placed s parts e))) (record {
       sound = subst IsSound (sym (program_away x placed)) h;
       probes = (functions_fit x.functions (begun placed) clear).1;

@@ -1,7 +1,9 @@
 -- The probes of a text in the program that the text has without them: a walk over the program in
 -- the order of the text, in which each part takes from the front the probes that stand at its
--- place. What no part takes stays at the front, and nothing after it is taken.
-use Rattle.std.specs.Prelude.{ℕ, suc, ◌&&◌, Bool, true, false, List, [], ◌∷◌, take, drop, Option}
+-- place. What no part takes stays at the front, and nothing after it is taken: it has a fault, and
+-- the others are judged by a walk without it.
+use Rattle.std.specs.Prelude.{ℕ, zero, suc, ◌-◌, ◌&&◌, Bool, true, false, List, [], ◌∷◌, length}
+use Rattle.std.specs.Prelude.{take, drop, remove, Option}
 use Rattle.std.specs.Prelude.{Some, None, unwrap_or, Result, Ok, Err, if◌then◌else◌}
 use Rattle.mc_span.specs.declared.span.Span.{Span}
 use Rattle.mc_value.specs.declared.int_type.IntType.{IntType}
@@ -367,19 +369,34 @@ back_function f = do
     exit = exit;
   })
 
--- where the word of the first probe with a fault starts: of those that were put, and of the first
--- that is left
-abbrev pub first_fault : List Placed → Option ℕ → Option ℕ
-first_fault [] fault = fault
-first_fault (q ∷ rest) fault = first_of q.word fault
+-- the functions with these probes, and the pen after them
+abbrev pub put_all : typed.Program → List Placed → List probed.Function × Pen
+put_all program placed = each back_function program.functions (begun placed)
+
+-- Where the word of the first probe with a fault starts: of those that were put, where none is
+-- left. Else the first that is left stands at no part of the program, which is its fault, and `others`
+-- judges the probes without it.
+abbrev pub first_fault : (others : List Placed → Option ℕ) → List Placed → List Placed → Option ℕ
+    → Option ℕ
+first_fault others placed [] fault = fault
+first_fault others placed (q ∷ rest) fault =
+    first_of q.word (others (remove placed (length placed - length (q ∷ rest))))
+
+-- of these probes, of which fewer than so many stand at no part of the program
+abbrev pub faults : ℕ → typed.Program → List Placed → Option ℕ
+faults zero program placed = None
+faults (suc more) program placed =
+    let pen = (put_all program placed).1 in
+    first_fault (faults more program) placed pen.left pen.fault
 
 abbrev pub unless : Option ℕ → probed.Tree → Result probed.Tree ℕ
 unless None tree = Ok tree
 unless (Some at) tree = Err at
 
-abbrev pub answer : typed.Program → List probed.Function × Pen → Result probed.Tree ℕ
-answer program done =
-    unless (first_fault done.1.left done.1.fault) (record {
+abbrev pub answer : typed.Program → List Placed → List probed.Function × Pen
+    → Result probed.Tree ℕ
+answer program placed done =
+    unless (first_fault (faults (length placed) program) placed done.1.left done.1.fault) (record {
       program = record {
         functions = done.0;
         statics = program.statics;
@@ -390,4 +407,4 @@ answer program done =
 
 -- the program with these probes, or where the word of the first one with a fault starts
 abbrev pub put_back : typed.Program → List Placed → Result probed.Tree ℕ
-put_back program placed = answer program (each back_function program.functions (begun placed))
+put_back program placed = answer program placed (put_all program placed)

@@ -1,5 +1,5 @@
 -- Worked probes: those of `int f(int a,int b){return a&&b;}`, a register that the function does not
--- have, a probe that stands at no place, probes round an implied conversion, and sums of paths.
+-- have, probes that stand at no place, probes round an implied conversion, and sums of paths.
 use Rattle.std.specs.Prelude.{◌≡◌, ℕ, ◌+◌, false, List, [], ◌∷◌, Some, None, Ok, Err, codes}
 use Rattle.mc_span.specs.declared.span.Span.{Span}
 use Rattle.mc_value.specs.declared.int_type.IntType.{IntType}
@@ -8,7 +8,8 @@ use Rattle.mc_value.specs.declared.operators.BinOp.TheVariants as bits
 use Rattle.mc_typed.specs.declared.operators.Operator.TheVariants as operator
 use Rattle.mc_typed.specs.declared.operators.LogicOperator.TheVariants as logic
 use Rattle.mc_typed.specs.declared.probes.Probe.TheVariants as probe
-use Rattle.mc_typed.specs.Tree.{NumberParameter, NumberResult}
+use Rattle.mc_typed.specs.Layout.{Scalar}
+use Rattle.mc_typed.specs.Tree.{ArrayParameter, NumberParameter, NumberResult}
 use Rattle.mc_typed.specs.Tree as typed
 use Rattle.mc_probe.specs.Tree as probed
 use Rattle.reread_pieces.specs.declared.piece.What.{What}
@@ -103,6 +104,45 @@ NoRegister = put_back program (placed 1 []) ≡ Err 97
 -- a probe after all that stands at no place
 abbrev pub NoPlace : Type 0
 NoPlace = put_back program (placed 0 (at 190 (span 19 31) (what.Statement 0) ∷ [])) ≡ Err 190
+
+-- ---- a probe at no place, inside a decision
+
+-- `int f(int t[2],int a){return t[a]||a;}`
+abbrev indexing : typed.Function
+indexing = record {
+  name = codes "f";
+  name_span = span 4 5;
+  parameters = ArrayParameter (Scalar int_type.Int) ∷ NumberParameter int_type.Int ∷ [];
+  result = NumberResult int_type.Int;
+  objects = [];
+  body =
+      typed.statements
+      (typed.Return
+      (typed.ReturnNumber
+      (typed.Logic logic.Or
+      (typed.Read (typed.Parameter 0 1 (local 1 int_type.Int 31) (span 29 33)) int_type.Int)
+      (local 1 int_type.Int 35) (span 29 36)))
+      (span 22 37))
+      typed.no_statements;
+  closing = span 37 38;
+}
+
+-- `MCDC_D(0,65535,MCDC_W(0,t)[a]||MCDC_C(0,0,1,a))`: no value stands at `t`. The path on which `a`
+-- is false reaches bit 65,536, so the decision, which begins before that, has a fault too.
+abbrev pub PathBehindNoPlace : Type 0
+PathBehindNoPlace =
+    put_back (record { functions = indexing ∷ []; statics = []; structures = [] })
+    (at 22 (span 4 5) (what.Registers 1) ∷ at 48 (span 29 36) (what.Decision 0 65535)
+    ∷ at 63 (span 29 30) (what.Switch 0) ∷ at 79 (span 35 36) (what.Condition 0 0 1) ∷ [])
+    ≡ Err 48
+
+-- with a base that is one less, the first fault is that of the probe round `t`
+abbrev pub NoPlaceInDecision : Type 0
+NoPlaceInDecision =
+    put_back (record { functions = indexing ∷ []; statics = []; structures = [] })
+    (at 22 (span 4 5) (what.Registers 1) ∷ at 48 (span 29 36) (what.Decision 0 65534)
+    ∷ at 63 (span 29 30) (what.Switch 0) ∷ at 79 (span 35 36) (what.Condition 0 0 1) ∷ [])
+    ≡ Err 63
 
 -- ---- an implied conversion
 

@@ -4,3 +4,4 @@ pub mod Greatest
 pub mod Events
 pub mod First
 pub mod Inside
+pub mod Strays

@@ -1,7 +1,9 @@
 //! What follows from the definitions. The functions do nothing: each has a law as its contract.
 ghost use Rattle.reread_put_back.specs.Worked.{
   NoPlace,
+  NoPlaceInDecision,
   NoRegister,
+  PathBehindNoPlace,
   TheAnd,
   TheFlag,
   TheFunction,
@@ -18,6 +20,12 @@ pub fn function_with_probes()
 pub fn first_faults()
     ensures register { NoRegister }
     ensures place { NoPlace }
+{}
+
+/// A probe at no place does not hide a fault of the decision round it, which begins before it.
+pub fn faults_round_no_place()
+    ensures path { PathBehindNoPlace }
+    ensures place { NoPlaceInDecision }
 {}
 
 /// Round an implied conversion stand the probe of a `switch`, and the condition of a `_Bool`.

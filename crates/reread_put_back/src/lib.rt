@@ -7,6 +7,7 @@ mod expressions;
 mod fault;
 mod functions;
 mod initializers;
+mod judging;
 mod laws;
 mod pen;
 mod program;
@@ -16,5 +17,8 @@ mod sums;
 mod walk;
 
 pub use fault::BackFault;
-pub use laws::{first_faults, function_with_probes, probes_round_conversions, sums_of_paths};
+pub use laws::{
+    faults_round_no_place, first_faults, function_with_probes, probes_round_conversions,
+    sums_of_paths,
+};
 pub use program::put_back;

@@ -6,34 +6,32 @@ ghost use Rattle.mc_probe.specs.Trees.{tree_of};
 ghost use Rattle.reread_put_back.specs.Back as spec;
 ghost use Rattle.reread_put_back.specs.Faults.{IsFault};
 ghost use Rattle.reread_put_back.specs.steps.First.{IsFirst};
+ghost use Rattle.reread_put_back.specs.steps.Strays.{first_of_all};
 
 use crate::fault::BackFault;
 use crate::functions::all_functions;
-use crate::pen::{Pen, first_of};
+use crate::judging::first_fault;
+use crate::pen::Pen;
 use instrument_copies::{all_structures, static_objects};
 use mc_probe::Instrumented;
 use mc_typed::Program;
 use reread_pieces::Placed;
 use std::alloc::{AllocError, Global};
 
-/// Where the word of the first probe in the text with a fault starts: of those that were put, and
-/// of the first that is left.
-fn first_fault(pen: &Pen<'_>) -> Option<u32>
-    ensures { result ≡ spec.first_fault pen.now.left.now pen.now.fault }
-{
-    match pen.left {
-        [probe, ..] => first_of(probe.word, pen.fault),
-        [] => pen.fault,
-    }
-}
-
 /// How many bits there are, where no probe has a fault.
-fn checked(pen: &Pen<'_>) -> Result<u32, BackFault>
+fn checked(
+    alloc: Global,
+    program: &Program<'_>,
+    placed: &[Placed],
+    pen: &Pen<'_>,
+) -> Result<u32, BackFault>
     ensures bits { IfOk result (λ bits. bits ≡ pen.now.bits) }
-    ensures none { IfOk result (λ _. spec.first_fault pen.now.left.now pen.now.fault ≡ None) }
-    ensures refused { IfErr result (IsFirst (spec.first_fault pen.now.left.now pen.now.fault)) }
+    ensures none { IfOk result (λ _.
+        first_of_all (program_of program.now) placed.now pen.now.left.now pen.now.fault ≡ None) }
+    ensures refused { IfErr result (IsFirst
+        (first_of_all (program_of program.now) placed.now pen.now.left.now pen.now.fault)) }
 {
-    match first_fault(pen) {
+    match first_fault(alloc, program, placed, pen)? {
         Some(at) => Err(BackFault::Probe { at }),
         None => Ok(pen.bits),
     }
@@ -43,7 +41,7 @@ fn checked(pen: &Pen<'_>) -> Result<u32, BackFault>
 ///
 /// `Probe` is answered exactly where one of them has a fault, with the first one in the text.
 /// Without its probes the answer is the program. Takes memory in proportion to the program and its
-/// probes.
+/// probes, and time too for each probe that stands at no part of the program.
 pub fn put_back<'a>(
     alloc: Global,
     program: &Program<'a>,
@@ -61,7 +59,7 @@ pub fn put_back<'a>(
         bits: 0,
     };
     let functions = all_functions(alloc, &mut pen, program.functions())?;
-    let bits = match checked(&pen) {
+    let bits = match checked(alloc, program, placed, &pen) {
         Ok(bits) => bits,
         Err(fault) => return Err(fault),
     };

@@ -3,7 +3,7 @@ use Rattle.std.specs.Prelude.{◌≡◌, Result, Ok, Err, ⊤}
 use Rattle.subset_forms.specs.Names.{name_of}
 use Rattle.station_replies.specs.Files.{File as AskedFile}
 use Rattle.station_replies.specs.Reply.{Reply as CalledFor, longer, refusal}
-use Rattle.station_replies.specs.Texts.{bits_line, entry_line, form_line, justifications_line, kept_line, many_line, many_tests_line, matrix_line, mutants_line, nothing_line, place_line, quote_line, same_test_line, tests_line}
+use Rattle.station_replies.specs.Texts.{bits_line, bytes_line, entry_line, form_line, justifications_line, kept_line, many_line, many_tests_line, matrix_line, mutants_line, nothing_line, place_line, quote_line, same_test_line, tests_line}
 use Rattle.station_replies.specs.declared.file.File.{File}
 use Rattle.station_replies.specs.declared.refusal.Refusal.{Refusal}
 use Rattle.station_replies.specs.declared.refusal.Refusal.TheVariants as why
@@ -25,6 +25,8 @@ reply_to (why.TooMany place what count) =
     refusal SourceRefused (many_line place.line place.column what.now count)
 reply_to (why.NothingOf name) = refusal SourceRefused (nothing_line name.now)
 reply_to (why.TooManyBits count) = refusal SourceRefused (bits_line count)
+reply_to (why.NotAdapted lines) = refusal SourceRefused lines.items
+reply_to (why.TooManyBytes count) = refusal SourceRefused (bytes_line count)
 reply_to (why.Tests fault) = refusal TestsRefused (tests_line fault)
 reply_to (why.Record name line word) =
     refusal TestsRefused (kept_line name.now line word.now)

@@ -32,7 +32,11 @@ usage_text =
     ∷ codes "       mcdc list SOURCE TESTS [--mode unique|masking] [--workers N] [--fuel N]"
     ∷ codes " [--justify NAME]" ∷ newline
     ∷ codes "       mcdc functions SOURCE TESTS [--mode unique|masking] [--workers N] [--fuel N]"
-    ∷ codes " [--justify NAME] [--of NAME]" ∷ newline ∷ [])
+    ∷ codes " [--justify NAME] [--of NAME]" ∷ newline
+    ∷ codes "       mcdc needs SOURCE TESTS [--mode unique|masking] [--workers N] [--fuel N]"
+    ∷ codes " [--justify NAME] [--of NAME]" ∷ newline
+    ∷ codes "       mcdc results SOURCE TESTS [--workers N] [--fuel N]" ∷ newline
+    ∷ codes "       mcdc adapt SOURCE" ∷ newline ∷ [])
 
 abbrev pub cannot_read_line : List ℕ → List ℕ
 cannot_read_line name = concat (codes "mcdc: cannot read " ∷ name ∷ newline ∷ [])
@@ -61,7 +65,7 @@ abbrev pub start_of : (source : List ℕ) → List Tok → ℕ
 start_of source [] = length source
 start_of source (t ∷ ts) = t.start
 
--- the line on the syntax, at the token that so many come before
+-- the line on the syntax, at the token that this number of tokens come before
 abbrev pub syntax_line : (source : List ℕ) → List Tok → ℕ → List ℕ
 syntax_line source tokens at =
     line_at source (Some (start_of source (drop at tokens))) (codes "syntax")
@@ -103,6 +107,11 @@ nothing_line name = concat (codes "mcdc: source: nothing of " ∷ name ∷ newli
 abbrev pub bits_line : (count : ℕ) → List ℕ
 bits_line count =
     concat (codes "mcdc: source: too many bits " ∷ decimal count ∷ newline ∷ [])
+
+-- the line on a source that is made and has too many bytes
+abbrev pub bytes_line : (count : ℕ) → List ℕ
+bytes_line count =
+    concat (codes "mcdc: source: too many bytes " ∷ decimal count ∷ newline ∷ [])
 
 -- the first fault of a tests file, by the record in which it stands
 abbrev pub record_line : (row : ℕ) → List ℕ → List ℕ

@@ -37,6 +37,14 @@ pub enum Refusal<'a> {
     TooManyBits {
         count: u64,
     },
+    /// Pieces of the source stay outside the language: a line for each.
+    NotAdapted {
+        lines: Vec<u8>,
+    },
+    /// The source that is made has too many bytes.
+    TooManyBytes {
+        count: u64,
+    },
     /// The tests file has a first fault.
     Tests(TestFault),
     /// The record with this name has a first fault, in this line, and this is its kind.
@@ -51,7 +59,7 @@ pub enum Refusal<'a> {
         left: u32,
         right: u32,
     },
-    /// Two records have too many tests together: so many.
+    /// Two records have too many tests together: this number.
     TooManyTests {
         count: u32,
     },
@@ -70,11 +78,11 @@ pub enum Refusal<'a> {
         kept: &'a [u8],
         given: Vec<u8>,
     },
-    /// The matrix of all bits under all tests would have so many words.
+    /// The matrix of all bits under all tests would have this number of words.
     TooLarge {
         words: u64,
     },
-    /// The program has so many mutants, which are too many.
+    /// The program has this number of mutants, which are too many.
     TooManyMutants {
         count: u32,
     },
@@ -91,7 +99,9 @@ impl Refusal<'_> {
             | Refusal::Outside { .. }
             | Refusal::TooMany { .. }
             | Refusal::NothingOf { .. }
-            | Refusal::TooManyBits { .. } => Status::SourceRefused,
+            | Refusal::TooManyBits { .. }
+            | Refusal::NotAdapted { .. }
+            | Refusal::TooManyBytes { .. } => Status::SourceRefused,
             Refusal::Tests(_)
             | Refusal::Record { .. }
             | Refusal::SameTest { .. }

@@ -1,7 +1,7 @@
 //! The texts on the errors' sink.
 ghost use Rattle.std.specs.Prelude.{◌≡◌, IfOk};
 ghost use Rattle.station_replies.specs.Seen.{reply_to};
-ghost use Rattle.station_replies.specs.Texts.{bits_line, cannot_read_line, entry_line, form_line, justifications_line, kept_line, longer_line, many_line, many_tests_line, matrix_line, mutants_line, nothing_line, place_line, quote_line, record_line, same_test_line, tests_line, usage_text};
+ghost use Rattle.station_replies.specs.Texts.{bits_line, bytes_line, cannot_read_line, entry_line, form_line, justifications_line, kept_line, longer_line, many_line, many_tests_line, matrix_line, mutants_line, nothing_line, place_line, quote_line, record_line, same_test_line, tests_line, usage_text};
 
 use crate::refusal::Refusal;
 use mc_lex::Place;
@@ -29,7 +29,11 @@ pub fn usage_text(alloc: Global) -> Result<Vec<u8>, AllocError>
         mcdc list SOURCE TESTS [--mode unique|masking] [--workers N] [--fuel N] \
         [--justify NAME]\n       \
         mcdc functions SOURCE TESTS [--mode unique|masking] [--workers N] [--fuel N] \
-        [--justify NAME] [--of NAME]\n",
+        [--justify NAME] [--of NAME]\n       \
+        mcdc needs SOURCE TESTS [--mode unique|masking] [--workers N] [--fuel N] \
+        [--justify NAME] [--of NAME]\n       \
+        mcdc results SOURCE TESTS [--workers N] [--fuel N]\n       \
+        mcdc adapt SOURCE\n",
     )?;
     Ok(text.into_bytes())
 }
@@ -96,6 +100,14 @@ fn bits_line(alloc: Global, count: u64) -> Result<Vec<u8>, AllocError>
     ensures { IfOk result (λ text. text.items ≡ bits_line count) }
 {
     let text = format!(in alloc; "mcdc: source: too many bits {count}\n")?;
+    Ok(text.into_bytes())
+}
+
+// The line on a source that is made and has too many bytes.
+fn bytes_line(alloc: Global, count: u64) -> Result<Vec<u8>, AllocError>
+    ensures { IfOk result (λ text. text.items ≡ bytes_line count) }
+{
+    let text = format!(in alloc; "mcdc: source: too many bytes {count}\n")?;
     Ok(text.into_bytes())
 }
 
@@ -196,7 +208,7 @@ fn mutants_line(alloc: Global, count: u32) -> Result<Vec<u8>, AllocError>
     Ok(text.into_bytes())
 }
 
-/// The line of a refusal.
+/// The line of a refusal, or its lines where it is of several pieces.
 pub fn refusal_line(alloc: Global, refusal: &Refusal<'_>) -> Result<Vec<u8>, AllocError>
     ensures { IfOk result (λ line. line.items ≡ (reply_to refusal.now).diag) }
 {
@@ -207,6 +219,8 @@ pub fn refusal_line(alloc: Global, refusal: &Refusal<'_>) -> Result<Vec<u8>, All
         Refusal::TooMany { place, what, count } => many_line(alloc, *place, what, *count),
         Refusal::NothingOf { name } => nothing_line(alloc, name),
         Refusal::TooManyBits { count } => bits_line(alloc, *count),
+        Refusal::NotAdapted { lines } => lines.to_vec(alloc),
+        Refusal::TooManyBytes { count } => bytes_line(alloc, *count),
         Refusal::Tests(fault) => tests_line(alloc, *fault),
         Refusal::Record { name, line, word } => kept_line(alloc, name, *line, word),
         Refusal::SameTest { left, right } => same_test_line(alloc, *left, *right),

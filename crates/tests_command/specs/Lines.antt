@@ -30,7 +30,7 @@ abbrev pub AreNone : List (List ℕ) → Type 0
 AreNone [] = ⊤
 AreNone (line ∷ lines) = (command_of (words_in line) ≡ None) × AreNone lines
 
--- a run of the tests that a file lists, by so many workers and with so much fuel for each
+-- a run of the tests that a file lists, by this number of workers and with this fuel for each
 abbrev pub run_by : List ℕ → List ℕ → (workers fuel : ℕ) → Task → Command
 run_by source tests workers fuel task =
     on_source source
@@ -64,7 +64,7 @@ analysis mode form justify = on_source (codes "a.c")
 abbrev pub vectors_by : ℕ → Command
 vectors_by fuel = matrix_of fuel vectors
 
--- the vectors, found by so many workers
+-- the vectors, found by this number of workers
 abbrev pub vectors_shared : (workers fuel : ℕ) → Command
 vectors_shared workers fuel = run_by (codes "a.c") (codes "a.csv") workers fuel (on_matrix vectors)
 

@@ -3,7 +3,7 @@
 #![tactic(auto, unfolding(mc_command::specs::Command::command_of, clap::proofs::OnLiterals::clap_on_literals))]
 
 ghost use Rattle.std.specs.Prelude.{◌∷◌, [], None, Some, codes};
-ghost use Rattle.mc_command.specs.Command.{functions, instrumented, judged, listing, merge, mutated, on_matrix, on_source, recorded, reduced, selfload, vectors, watched, write};
+ghost use Rattle.mc_command.specs.Command.{adapted, functions, instrumented, judged, listing, merge, mutated, needs, on_matrix, on_source, recorded, reduced, selfload, traced, vectors, watched, write};
 ghost use Rattle.report_options.specs.declared.form.Form.TheVariants.{Csv, Json, Text};
 ghost use Rattle.report_options.specs.declared.mode.Mode.TheVariants.{Masking, Unique};
 ghost use Rattle.tests_command.specs.Lines.{AreAll, Is, analysis, justified_by, matrix_of, plain_report, report_by, run_by, run_of, vectors_by, vectors_of, vectors_shared};
@@ -83,6 +83,8 @@ pub fn other_commands()
         (run_by (codes "a.c") (codes "a.csv") 2 8 (on_matrix recorded)) }
     ensures instrument { AreAll (on_source (codes "a.c") (write instrumented))
         (codes "instrument a.c" ∷ codes "instrument -- a.c" ∷ codes "instrument a.c --" ∷ []) }
+    ensures adapt { AreAll (on_source (codes "a.i") (write adapted))
+        (codes "adapt a.i" ∷ codes "adapt -- a.i" ∷ codes "adapt a.i --" ∷ []) }
     ensures merge { Is (codes "merge a.c a.rec b.rec")
         (on_source (codes "a.c") (merge (codes "a.rec") (codes "b.rec"))) }
     ensures selfload_least { Is (codes "selfload 1") (selfload 1 4) }
@@ -131,6 +133,21 @@ pub fn commands_of_testers()
           justify = None;
           telling = functions (Some (codes "m.c"));
         }))) }
+    ensures needed { Is (codes "needs a.c a.csv --fuel 8")
+        (matrix_of 8 (judged (record {
+          mode = Unique;
+          justify = None;
+          telling = needs None;
+        }))) }
+    ensures needed_of { Is (codes "needs a.c --of m.c a.csv --justify j.json --fuel 8")
+        (matrix_of 8 (judged (record {
+          mode = Unique;
+          justify = Some (codes "j.json");
+          telling = needs (Some (codes "m.c"));
+        }))) }
+    ensures traced { AreAll (run_of (codes "a.c") (codes "a.csv") 8 traced)
+        (codes "results a.c a.csv --fuel 8" ∷ codes "results --workers=4 --fuel=8 -- a.c a.csv"
+        ∷ []) }
 {}
 
 /// The options of a report of a record.

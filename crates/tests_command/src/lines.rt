@@ -19,6 +19,8 @@ vectors a.c --workers=64 a.csv --fuel=8@a.c|a.csv|64|8|vectors
 vectors --fuel 100000000 - a.csv@-|a.csv|4|100000000|vectors
 instrument a.c@a.c|instrument
 instrument -- -a.c@-a.c|instrument
+adapt a.i@a.i|adapt
+adapt -- -a.i@-a.i|adapt
 record a.c a.csv --fuel 8 --workers 2@a.c|a.csv|2|8|record
 merge a.c a.rec b.rec@a.c|merge|a.rec|b.rec
 analyse a.c a.rec --mode masking@a.c|analyse|a.rec|report|masking|text
@@ -35,6 +37,10 @@ list a.c a.csv@a.c|a.csv|4|1000000|list|unique
 list --justify j.json a.c a.csv --mode=masking --workers 1@a.c|a.csv|1|1000000|list|masking|j.json
 functions a.c a.csv@a.c|a.csv|4|1000000|functions|unique
 functions --of m.c a.c a.csv --mode=masking --justify j.json@a.c|a.csv|4|1000000|functions|masking|of m.c|j.json
+needs a.c a.csv@a.c|a.csv|4|1000000|needs|unique
+needs a.c --of=m.c --justify j.json a.csv --mode masking --workers 1@a.c|a.csv|1|1000000|needs|masking|of m.c|j.json
+results a.c a.csv@a.c|a.csv|4|1000000|results
+results --fuel=8 a.c a.csv --workers 64@a.c|a.csv|64|8|results
 selfload 1 --workers 64@selfload|1|64
 vectors \u{e9}.c \u{4e2d}.csv@\u{e9}.c|\u{4e2d}.csv|4|1000000|vectors
 @
@@ -57,6 +63,9 @@ vectors a.c a.csv --workers@
 instrument@
 instrument a.c a.csv@
 instrument a.c --fuel 8@
+adapt@
+adapt a.i b.i@
+adapt a.i --fuel 8@
 merge a.c a.rec@
 analyse a.c a.rec --fuel 8@
 selfload 0@
@@ -82,6 +91,12 @@ list a.c a.csv --of m.c@
 functions a.c@
 functions a.c a.csv --of@
 functions a.c a.csv --format text@
+needs a.c@
+needs a.c a.csv --format text@
+needs a.c a.csv --workers 65@
+results a.c@
+results a.c a.csv --mode unique@
+results a.c a.csv --of m.c@
 ";
 
 fn push_words(words: &mut Words, line: &str) -> Result<(), AllocError> {

@@ -85,6 +85,8 @@ pub fn other_commands()
     ensures instrument { AreNone (codes "instrument" ∷ codes "instrument a.c a.csv"
         ∷ codes "instrument a.c --fuel 8" ∷ codes "instrument --workers=4 a.c"
         ∷ codes "instrument -a.c" ∷ codes "Instrument a.c" ∷ []) }
+    ensures adapt { AreNone (codes "adapt" ∷ codes "adapt a.i b.i" ∷ codes "adapt a.i --fuel 8"
+        ∷ codes "adapt -a.i" ∷ []) }
     ensures merge { AreNone (codes "merge a.c a.rec" ∷ codes "merge a.c a.rec b.rec c.rec"
         ∷ codes "merge a.c a.rec b.rec --fuel 8" ∷ codes "merge a.c a.rec b.rec --workers 4"
         ∷ []) }
@@ -105,6 +107,10 @@ pub fn other_commands()
         ∷ codes "mutate a.c a.csv --looks 1" ∷ codes "mutants a.c a.csv" ∷ []) }
     ensures listed { AreNone (codes "list a.c" ∷ codes "list a.c a.csv --format text"
         ∷ codes "list a.c a.csv --workers 0" ∷ []) }
+    ensures needed { AreNone (codes "needs a.c" ∷ codes "needs a.c a.csv --format text"
+        ∷ codes "needs a.c a.csv --looks 1" ∷ []) }
+    ensures traced { AreNone (codes "results a.c" ∷ codes "results a.c a.csv --mode unique"
+        ∷ codes "results a.c a.csv --of m.c" ∷ codes "results a.c a.csv --justify j.json" ∷ []) }
     ensures selfload { AreNone (codes "selfload" ∷ codes "selfload 0" ∷ codes "selfload 201"
         ∷ codes "selfload 05" ∷ codes "selfload +5" ∷ codes "selfload 5 6"
         ∷ codes "selfload 5 --fuel 8" ∷ codes "selfload 5 --workers 65" ∷ codes "selfload a.c"

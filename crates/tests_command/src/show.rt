@@ -34,6 +34,7 @@ fn telling_word(telling: Telling<'_>) -> &'static str {
         Telling::Report(_) => "report|",
         Telling::Listing => "list|",
         Telling::Functions { .. } => "functions|",
+        Telling::Needs { .. } => "needs|",
     }
 }
 
@@ -44,11 +45,18 @@ fn push_form(text: &mut String, telling: Telling<'_>) -> Result<(), AllocError> 
             text.push_str("|")?;
             text.push_str(form_word(form))
         }
-        Telling::Listing | Telling::Functions { of: None } => Ok(()),
-        Telling::Functions { of: Some(name) } => {
+        Telling::Listing => Ok(()),
+        Telling::Functions { of } | Telling::Needs { of } => push_of(text, of),
+    }
+}
+
+fn push_of(text: &mut String, of: Option<&str>) -> Result<(), AllocError> {
+    match of {
+        Some(name) => {
             text.push_str("|of ")?;
             text.push_str(name)
         }
+        None => Ok(()),
     }
 }
 
@@ -79,6 +87,7 @@ fn push_task(alloc: Global, text: &mut String, task: Task<'_>) -> Result<(), All
             push_number(alloc, text, looks)
         }
         Task::Mutate => text.push_str("mutate"),
+        Task::Trace => text.push_str("results"),
     }
 }
 
@@ -103,6 +112,7 @@ fn push_action(alloc: Global, text: &mut String, action: Action<'_>) -> Result<(
     match action {
         Action::Run(run) => push_run(alloc, text, run),
         Action::Write(SourceText::Instrumented) => text.push_str("instrument"),
+        Action::Write(SourceText::Adapted) => text.push_str("adapt"),
         Action::Merge { left, right } => {
             text.push_str("merge|")?;
             text.push_str(left)?;

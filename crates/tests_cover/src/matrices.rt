@@ -1,4 +1,4 @@
-//! Known matrices.
+//! Words, places and merging of matrices whose pairs are known.
 ghost use Rattle.std.specs.Prelude.{◌≡◌, ◌≤◌, IfOk};
 ghost use Rattle.mc_core.specs.Shape.{word_count};
 

@@ -89,7 +89,7 @@ fn join_all(cover: &Cover, pass: &mut Pass, mut passes: Vec<Pass>)
     }
 }
 
-/// The matrix of all tests, recorded by so many workers.
+/// The matrix of all tests, recorded by this number of workers.
 pub fn record_all<R: Threads + Sync, C: Closer>(
     rt: &R,
     alloc: Global,

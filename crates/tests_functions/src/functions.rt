@@ -41,6 +41,32 @@ const FOUND: &[Found] = &[
     (ObligationId::Statement(2), 105, 114, STALE),
 ];
 
+/// A `switch` over eleven values, each of which is tried: the `default` that is not written is not
+/// chosen.
+const SWITCH: &[u8] = b"int f(int a){switch(a){\
+case 0:case 1:case 2:case 3:case 4:case 5:case 6:case 7:case 8:case 9:case 10:return 1;}return 2;}";
+
+const FOUND_IN_SWITCH: &[Found] = &[
+    (ObligationId::Entry(0), 4, 5, MET),
+    (ObligationId::Exit(0), 101, 110, MET),
+    (ObligationId::Exit(1), 111, 120, MISSING),
+    (ObligationId::Statement(0), 13, 19, MET),
+    (ObligationId::Statement(1), 101, 110, MET),
+    (ObligationId::Statement(2), 111, 120, MISSING),
+    (ObligationId::Label(0), 23, 30, MET),
+    (ObligationId::Label(1), 30, 37, MET),
+    (ObligationId::Label(2), 37, 44, MET),
+    (ObligationId::Label(3), 44, 51, MET),
+    (ObligationId::Label(4), 51, 58, MET),
+    (ObligationId::Label(5), 58, 65, MET),
+    (ObligationId::Label(6), 65, 72, MET),
+    (ObligationId::Label(7), 72, 79, MET),
+    (ObligationId::Label(8), 79, 86, MET),
+    (ObligationId::Label(9), 86, 93, MET),
+    (ObligationId::Label(10), 93, 101, MET),
+    (ObligationId::Label(11), 13, 19, MISSING),
+];
+
 /// A text with what is found in it, the states of its tests, the file, the lines, and the status.
 struct Row<'a> {
     source: &'a [u8],
@@ -51,7 +77,7 @@ struct Row<'a> {
     status: u8,
 }
 
-static ROWS: [Row<'static>; 7] = [
+static ROWS: [Row<'static>; 8] = [
     Row {
         source: THREE,
         found: FOUND,
@@ -139,6 +165,20 @@ status 0\n",
 \x20 entries     1 of 1  100 %\n\
 \x20 outcomes    0 of 1    0 %   justified 1\n\
 all: 1 of 2 met, 1 justified, 0 stale, 0 missing\n\
+status 1\n",
+        status: 1,
+    },
+    Row {
+        source: SWITCH,
+        found: FOUND_IN_SWITCH,
+        states: &[TestState::Pass],
+        file: None,
+        lines: b"f 1:5\n\
+\x20 entries      1 of 1   100 %\n\
+\x20 exits        1 of 2    50 %\n\
+\x20 statements   2 of 3    66 %\n\
+\x20 labels      11 of 12   91 %\n\
+all: 15 of 18 met, 0 justified, 0 stale, 3 missing\n\
 status 1\n",
         status: 1,
     },
@@ -267,7 +307,7 @@ fn counts_of_rows(rt: HostRuntime) -> Result<(), Fail> {
     Ok(())
 }
 
-/// A text of two lines for each of so many functions.
+/// A text of two lines for each of a thousand functions.
 fn thousand(alloc: Global) -> Result<Vec<u8>, AllocError> {
     let mut source = Vec::new(alloc);
     for _function in 0..1000 {

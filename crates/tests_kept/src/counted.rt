@@ -1,4 +1,5 @@
-//! What `functions` counts. Each text that is expected was worked out by hand.
+//! What `functions`, `needs` and `results` write. Each text that is expected was worked out by
+//! hand.
 
 use crate::fail::Fail;
 use crate::run::{gives, of_tests};
@@ -59,9 +60,65 @@ all of h.h: 0 of 3 met, 0 justified, 0 stale, 3 missing; 7 more in other files
 status 1
 ";
 
+/// Of the second condition alone nothing is shown: it is false in no evaluated vector.
+const NEEDED: &str = "\
+D1C2 1:30 missing needs TF=F beside TT=T by t1
+  T a
+  F b
+want D1 TF=F for D1C2
+missing 1 wanted 1 stale 0
+status 1
+";
+
+const NEEDED_OF_OTHER: &str = "\
+E2 h.h:3 (4:5) missing
+X2 h.h:3 (4:13) missing
+S2 h.h:3 (4:13) missing
+missing 3 wanted 0 stale 0; 7 more in other files
+status 1
+";
+
+const QUOTIENT: &str = "# 7 \"m.c\"\nint f(int a,int b){return a/b;}\n";
+
+const QUOTIENT_TESTS: &str = "\
+test,call,arguments,inputs,expect,output
+t1,f,6 2,,2,
+t2,f,6 3,,2,
+t2,f,1 0,,,
+";
+
+/// `6 / 2` is 3, and division by 0 has no value.
+const CALLS: &str = "\
+test t1 fail values 3 output
+  call 1 f 6 2 returned 3 expected 2
+test t2 trap-division values 2 output
+  call 1 f 6 3 returned 2
+  call 2 f 1 0 trap-division after S1 m.c:7 (2:20) began
+    return a/b;
+tests 2 passed 0
+";
+
 /// The words, the source, its tests, the status, and what is put on the output and on the errors'
 /// sink.
-static ROWS: [(&str, &str, &str, u8, &str, &str); 8] = [
+static ROWS: [(&str, &str, &str, u8, &str, &str); 12] = [
+    ("needs|s.c|t.csv", SOURCE, TWO_TESTS, 1, NEEDED, ""),
+    (
+        "needs|s.c|t.csv|--of|h.h",
+        MARKED,
+        TESTS,
+        1,
+        NEEDED_OF_OTHER,
+        "",
+    ),
+    ("results|s.c|t.csv", QUOTIENT, QUOTIENT_TESTS, 1, CALLS, ""),
+    (
+        "results|s.c|t.csv|--workers|64",
+        QUOTIENT,
+        QUOTIENT_TESTS,
+        1,
+        CALLS,
+        "",
+    ),
     ("functions|s.c|t.csv", SOURCE, TESTS, 0, ALL, ""),
     ("functions|s.c|t.csv|--workers=1", SOURCE, TESTS, 0, ALL, ""),
     ("functions|s.c|t.csv", SOURCE, TWO_TESTS, 1, MISSING, ""),

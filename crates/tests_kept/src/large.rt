@@ -41,7 +41,7 @@ fn push_bits(alloc: Global, record: &mut String, bits: u32, tests: u32) -> Resul
     Ok(())
 }
 
-/// The record of so many tests, numbered from `first` on, that passed and hit nothing.
+/// The record of this number of tests, numbered from `first` on, that passed and hit nothing.
 fn idle_record(alloc: Global, program: Program, tests: u32, first: u32) -> Result<String, Fail> {
     let (_, bits, digest) = program;
     let mut record = String::new(alloc);
@@ -127,7 +127,7 @@ fn pairs_with_too_many_words(rt: HostRuntime) -> Result<(), Fail> {
     Ok(())
 }
 
-/// So many tests of `f`.
+/// This number of tests of `f`.
 fn tests_of(alloc: Global, count: u32) -> Result<String, Fail> {
     let mut tests = String::from_str(alloc, HEADER)?;
     for test in 0..count {
@@ -210,7 +210,7 @@ fn records_of_most_words(rt: HostRuntime) -> Result<(), Fail> {
     Ok(())
 }
 
-/// The longest file of a record has so many times 1,024 bytes.
+/// The longest file of a record has this number of times 1,024 bytes.
 const PIECES: usize = 32_768;
 
 /// A file of that length, and some bytes more.

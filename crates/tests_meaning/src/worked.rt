@@ -1,4 +1,4 @@
-//! Worked runs.
+//! Plain runs that were worked by hand. Each function has some of them as its contract.
 ghost use Rattle.std.specs.Prelude.{◌≡◌, pos, [], ◌∷◌};
 ghost use Rattle.mc_typed.specs.declared.plans.Ending.TheVariants as ending;
 ghost use Rattle.mc_meaning.specs.Tests.{plain_run};

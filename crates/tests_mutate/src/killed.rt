@@ -29,7 +29,7 @@ fn is_killed<R: Threads + Sync>(
     Ok(same)
 }
 
-/// The first row that so many workers do not come to.
+/// The first row that this number of workers does not come to.
 fn wrong_row<R: Threads + Sync>(
     rt: &R,
     alloc: Global,

@@ -217,8 +217,8 @@ fn of_tokens<R: Threads + Sync>(
     tell_of(rt, alloc, text, read, runs, "syntax")
 }
 
-/// Adds the items of the source's mutants that its tests kill, by so many workers, as text, or why
-/// there are none.
+/// Adds the items of the source's mutants that its tests kill, by this number of workers, as text,
+/// or why there are none.
 pub fn tell_kills<R: Threads + Sync>(
     rt: &R,
     alloc: Global,

@@ -85,8 +85,8 @@ const TESTS: &str = "vectors|s.c|x";
 
 const SOURCE: &str = "vectors|x|t.csv";
 
-/// The words, the bytes of `x`: a front, so many times a part, and a back, the status, and how the
-/// line ends.
+/// The words, the bytes of `x` (a front, a part with how often it comes, and a back), the status,
+/// and how the line ends.
 static INPUTS: [(&str, (&[u8], &[u8], u32, &[u8]), u8, &[u8]); 6] = [
     (
         SOURCE,
@@ -142,7 +142,7 @@ fn is_refused<R: Threads + Sync>(
     Ok(is_wanted)
 }
 
-// Adds the part so many times.
+// Adds the part this number of times.
 fn repeat(bytes: &mut Vec<u8>, part: &[u8], count: u32) -> Result<(), Fail> {
     for _turn in 0..count {
         bytes.extend_from_slice(part)?;

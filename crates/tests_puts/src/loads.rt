@@ -11,6 +11,7 @@ s.c,t.csv,j.json,@report|s.c|t.csv|--justify|j.json
 s.c,t.csv,@report|s.c|t.csv|--format|json
 s.c,t.csv,@vectors|s.c|t.csv
 s.c,@instrument|s.c
+s.c,@adapt|s.c
 s.c,t.csv,@record|s.c|t.csv
 s.c,LEFT,RIGHT,@merge|s.c|LEFT|RIGHT
 s.c,BOTH,@analyse|s.c|BOTH
@@ -19,6 +20,8 @@ s.c,t.csv,@reduce|s.c|t.csv
 s.c,t.csv,@mutate|s.c|t.csv
 s.c,t.csv,j.json,@list|--justify|j.json|s.c|t.csv
 s.c,t.csv,j.json,@functions|--justify|j.json|s.c|t.csv
+s.c,t.csv,j.json,@needs|--justify|j.json|s.c|t.csv
+s.c,t.csv,@results|s.c|t.csv
 ,@selfload|1
 ";
 

@@ -76,8 +76,8 @@ fn length_before(pieces: Pieces, number: u32, text: &[u8]) -> usize {
     length
 }
 
-/// The first part of a text up to the piece of this number, and so many bytes of it, if it has
-/// them.
+/// The first part of a text up to the piece of this number, and the first bytes of that piece, if
+/// it has them.
 pub fn part_of(pieces: Pieces, text: &[u8], number: u32, takes: u32) -> Option<&[u8]> {
     let before = length_before(pieces, number, text);
     let left = text.get(before..)?;

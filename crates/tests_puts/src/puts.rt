@@ -20,6 +20,7 @@ whole@1@0@report|s.c|t.csv|--format|json
 whole@1@1@report|s.c|t.csv|--format|json|--justify|j.json
 lines@6@0@vectors|s.c|t.csv
 tokens@142@0@instrument|s.c
+whole@1@0@adapt|s.c
 lines@14@0@record|s.c|t.csv
 lines@3@0@watch|s.c|none.csv|--looks|2
 lines@14@0@merge|s.c|LEFT|RIGHT
@@ -31,6 +32,8 @@ lines@4@0@reduce|s.c|t.csv
 lines@8@0@mutate|s.c|t.csv
 listing@2@0@list|s.c|t.csv
 lines@8@0@functions|s.c|t.csv
+lines@16@1@needs|s.c|none.csv
+lines@7@0@results|s.c|t.csv
 listing@6@1@list|l.c|none.csv
 ";
 
@@ -58,8 +61,8 @@ fn row_of(text: &str) -> Option<Row<'_>> {
     })
 }
 
-// Whether the status is 7 where this put fails after so many bytes, the output has what was put
-// before it and these bytes, and nothing is put after it.
+// Whether the status is 7 where this put fails after this number of bytes, the output has what was
+// put before it and these bytes, and nothing is put after it.
 fn is_cut<R: Threads + Sync>(
     rt: &R,
     alloc: Global,

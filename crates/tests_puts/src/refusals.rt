@@ -16,13 +16,16 @@ const ROWS: &str = "\
 2@@report|s.c|t.csv|--mode|unique|--mode|unique
 3@mcdc: source 1:20: undeclared@report|bad.c|t.csv
 3@mcdc: source 1:20: undeclared@instrument|bad.c
+3@mcdc: source 1:20: undeclared@adapt|bad.c
 3@mcdc: source 1:20: undeclared@merge|bad.c|LEFT|RIGHT
 3@mcdc: source 1:20: undeclared@list|bad.c|t.csv
 3@mcdc: source: nothing of u.c@functions|s.c|absent|--of|u.c
+3@mcdc: source: nothing of u.c@needs|s.c|absent|--of|u.c
 4@mcdc: tests record 2: arguments@vectors|s.c|bad.csv
 4@mcdc: tests record 2: arguments@record|s.c|bad.csv
 4@mcdc: tests record 2: arguments@reduce|s.c|bad.csv
 4@mcdc: tests record 2: arguments@mutate|s.c|bad.csv
+4@mcdc: tests record 2: arguments@results|s.c|bad.csv
 4@mcdc: record t.csv line 1: header@merge|s.c|t.csv|RIGHT
 4@mcdc: record t.csv line 1: header@merge|s.c|LEFT|t.csv
 4@mcdc: record t.csv line 1: header@analyse|s.c|t.csv
@@ -40,8 +43,8 @@ const ROWS: &str = "\
 /// How many bytes the put takes before it fails. All lines are shorter than the last one.
 static TAKEN: [u32; 3] = [0, 5, 4096];
 
-// Whether the status is 7 where the put fails after so many bytes, and both sinks have no more than
-// that first part.
+// Whether the status is 7 where the put fails after this number of bytes, and both sinks have no
+// more than that first part.
 fn is_cut<R: Threads + Sync>(
     rt: &R,
     alloc: Global,

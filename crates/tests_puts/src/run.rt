@@ -9,7 +9,7 @@ use mc_station::station;
 use std::alloc::Global;
 use std::thread::Threads;
 
-/// What fails: the load of a number, and on each sink the put of a number, which takes so many
+/// What fails: the load of a number, and on each sink the put of a number, which takes a number of
 /// bytes before it fails. There is no load and no put of the number 0.
 #[derive(Clone, Copy)]
 pub struct Faults {

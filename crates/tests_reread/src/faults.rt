@@ -195,7 +195,7 @@ static NO_TREE: [(&[u8], Answer); 44] = [
 ];
 
 /// Texts whose probes have a fault, and where the word of the first one starts.
-static FAULTY: [(&[u8], Answer); 40] = [
+static FAULTY: [(&[u8], Answer); 44] = [
     // registers
     (
         b"void f ( int x ) {\nunsigned mcdc_r [ 1 ] ;\nMCDC_H ( 0 ) ;\n{\nMCDC_H ( 3 ) ;\nif ( MCDC_D ( 1 , 5 , MCDC_C ( 0 , 0 , 1 , x ) ) ) {\nMCDC_H ( 4 ) ;\n{\nMCDC_H ( 1 ) ;\nreturn ;\n}\n}\n}\nMCDC_H ( 2 ) ;\n}\n",
@@ -341,6 +341,23 @@ static FAULTY: [(&[u8], Answer); 40] = [
     (
         b"void f(int x){unsigned mcdc_r[1];x=MCDC_D(4,0,x);int a[MCDC_W(0,2)];}",
         Answer::Probe(35),
+    ),
+    // a decision round a probe at no value: a path reaches 65,536 behind it, and none does
+    (
+        b"int t[2];int f(int a){unsigned mcdc_r[1];return MCDC_D(0,65535,MCDC_W(0,t)[a]||MCDC_C(0,0,1,a));}",
+        Answer::Probe(48),
+    ),
+    (
+        b"int t[2];int f(int a){unsigned mcdc_r[1];return MCDC_D(0,65534,MCDC_W(0,t)[a]||MCDC_C(0,0,1,a));}",
+        Answer::Probe(63),
+    ),
+    (
+        b"int t[2];int f(int a){unsigned mcdc_r[1];return MCDC_D(0,65534,MCDC_W(0,t)[a]||MCDC_W(0,t)[a]||MCDC_C(0,0,2,a));}",
+        Answer::Probe(48),
+    ),
+    (
+        b"struct S{int m;};int f(struct S s,int a){unsigned mcdc_r[1];return MCDC_D(0,65535,MCDC_C(0,0,0,s).m&&MCDC_C(0,1,0,a));}",
+        Answer::Probe(67),
     ),
 ];
 

@@ -370,7 +370,7 @@ int stall(int left, int right, _Bool ground) {
   return ((left > 14) | (right > 14)) & !ground;
 }
 ",
-    // fuel_pump.i
+    // fuel_pump.i, without its line markers and empty lines
     "typedef signed char int8_t;
 typedef unsigned char uint8_t;
 typedef short int16_t;

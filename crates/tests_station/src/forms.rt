@@ -215,7 +215,7 @@ fn reports_in_both_forms(rt: HostRuntime) -> Result<(), Fail> {
     Ok(())
 }
 
-/// The same by so many workers.
+/// The same by this number of workers.
 fn is_written_by<R: Threads + Sync>(
     rt: &R,
     alloc: Global,

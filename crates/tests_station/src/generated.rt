@@ -81,8 +81,8 @@ fn tests_of_first(alloc: Global, count: u32) -> Result<String, Fail> {
     Ok(tests)
 }
 
-/// Whether these words are refused for a program of so many functions with such a decision, under
-/// so many tests.
+/// Whether these words are refused for a program of this number of functions with such a decision,
+/// under this number of tests.
 fn is_too_large<R: Threads + Sync>(
     rt: &R,
     alloc: Global,

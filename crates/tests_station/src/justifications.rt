@@ -91,7 +91,7 @@ fn a_statement_that_is_no_utf8(rt: HostRuntime) -> Result<(), Fail> {
     Ok(())
 }
 
-/// Whether a file of so many entries without a shape is refused so.
+/// Whether a file of this number of entries without a shape is refused so.
 fn is_counted<R: Threads + Sync>(
     rt: &R,
     alloc: Global,

@@ -52,6 +52,8 @@ vectors|--|s.c|t.csv|--fuel|8
 functions|s.c
 functions|s.c|t.csv|--of
 functions|s.c|t.csv|--format|text
+needs|s.c|t.csv|--of
+results|s.c|t.csv|--mode|unique
 vectors|s.c|t.csv|--of|s.c
 watch|s.c|t.csv|--looks|0
 watch|s.c|t.csv|--looks|101
@@ -64,6 +66,9 @@ instrument|s.c|--fuel|8
 instrument|--workers=4|s.c
 instrument|-s.c
 Instrument|s.c
+adapt
+adapt|s.c|t.csv
+adapt|s.c|--fuel|8
 --help
 -h
 help

@@ -56,7 +56,7 @@ pub fn is_justified<R: Threads + Sync>(rt: &R, alloc: Global, text: &str) -> Res
 }
 
 /// Whether the run of a row, a text `CASE@WORDS@SOURCE@TESTS@STATUS@OUT@DIAG`, gives what it says
-/// by so many workers.
+/// by this number of workers.
 pub fn is_written_by<R: Threads + Sync>(
     rt: &R,
     alloc: Global,
@@ -67,7 +67,7 @@ pub fn is_written_by<R: Threads + Sync>(
 }
 
 /// Whether the run of a row, a text `JUSTIFICATIONS@CASE@WORDS@SOURCE@TESTS@STATUS@OUT@DIAG`, gives
-/// what it says by so many workers.
+/// what it says by this number of workers.
 pub fn is_justified_by<R: Threads + Sync>(
     rt: &R,
     alloc: Global,

@@ -4,7 +4,7 @@ use csv_records::Rows;
 use std::alloc::{AllocError, Global};
 use std::test::Fail;
 
-/// The records of a text, each field in brackets and each record on a line, up to so many records.
+/// The records of a text, each field in brackets and each record on a line, up to `most` records.
 fn shown(alloc: Global, text: &[u8], most: u32) -> Result<Vec<u8>, AllocError> {
     let mut shown = Vec::new(alloc);
     let mut rows = Rows::of(alloc, text);

@@ -160,7 +160,7 @@ fn sources(rt: HostRuntime) -> Result<(), Fail> {
     Ok(())
 }
 
-/// Whether a source with a piece between two others, so many times, is judged so.
+/// Whether a source with a piece between two others, this number of times, is judged so.
 fn is_repeated<R: Threads + Sync>(
     rt: &R,
     alloc: Global,
@@ -228,8 +228,8 @@ fn limit_of_parameters(rt: HostRuntime) -> Result<(), Fail> {
     Ok(())
 }
 
-/// Whether a tree that would be too high is refused: so many parentheses are opened, and so many
-/// closed.
+/// Whether a tree that would be too high is refused, where these numbers of parentheses are opened
+/// and closed.
 fn is_too_high<R: Threads + Sync>(
     rt: &R,
     alloc: Global,

@@ -69,7 +69,7 @@ fn node_text(
     Ok(text?)
 }
 
-/// The name of the next condition, where there were so many before it.
+/// The name of the next condition, where there were this number of conditions before it.
 fn name_of(before: u32) -> &'static str {
     match before {
         0 => "a",
@@ -200,7 +200,7 @@ fn answer_of(number: u32) -> &'static str {
     }
 }
 
-/// The vector of so many conditions with a number; their numbers are in their order.
+/// The vector with this number, of a decision with these conditions. Vectors are numbered in order.
 fn vector_of(conditions: u32, number: u32) -> Answers {
     match conditions {
         1 => [answer_of(number), "", "", ""],

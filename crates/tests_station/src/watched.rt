@@ -95,8 +95,8 @@ fn count_in(alloc: Global, line: &str, look: u32, all: &str) -> Result<Option<u3
     Ok(count)
 }
 
-// Whether there are so many lines of looks, no count is less than the one before or more than what
-// is recorded at the end, and only the last line follows.
+// Whether there is this number of lines of looks, no count is less than the one before or more than
+// what is recorded at the end, and only the last line follows.
 fn are_looks(
     alloc: Global,
     text: &str,

@@ -71,7 +71,7 @@ fn root(alloc: Global, sought: &mut Sought, tree: &Expression) -> Result<Express
     }
 }
 
-/// The same where the change is still to be found, after so many mutants.
+/// The same where the change is still to be found, after this number of mutants.
 #[cycle(change)]
 fn root_left(
     alloc: Global,

@@ -28,8 +28,8 @@ use std::alloc::{AllocError, Global};
 use std::thread;
 use std::thread::Threads;
 
-/// Runs the tests on the mutants of the program by so many workers, each in a thread of its own
-/// where one can be made. With T tests, item i is the mutant i div T + 1 under the test i mod T. A
+/// Runs the tests on the mutants of the program by this number of workers, each in a thread of its
+/// own where one can be made. With T tests, item i is the mutant i div T + 1 under the test i mod T. A
 /// worker claims an item, passes the gate with its number, runs it from the initial values of the
 /// static objects, and hits bit 0 where the test kills the mutant. The pass that comes back has
 /// every item claimed once, and exactly the hits of the items whose test kills. A worker keeps one
@@ -72,7 +72,7 @@ pub fn run_mutants<R: Threads + Sync, G: Gate>(
     run_task(rt, alloc, cover, pass, shape, &task, workers, gate)
 }
 
-/// Runs what the workers share, by so many of them. The cover has this shape.
+/// Runs what the workers share, by this number of them. The cover has this shape.
 #[tactic(auto, using(crate::proofs::Joined::all_ready))]
 fn run_task<R: Threads + Sync, G: Gate>(
     rt: &R,
@@ -106,7 +106,7 @@ fn sound(program: &Program<'_>)
     let _functions = program.functions();
 }
 
-/// The jobs of so many workers. The cover has this shape.
+/// The jobs of this number of workers. The cover has this shape.
 fn hire<'c, 'k, 't, 'a>(
     alloc: Global,
     cover: &'c Cover,

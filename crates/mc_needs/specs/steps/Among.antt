@@ -4,7 +4,7 @@ use Rattle.std.specs.Prelude.{ℕ, ◌<◌, ◌↔◌, ◌⊎◌, Bool, List, Al
 use Rattle.std.specs.List.Sorted.{IsStrictlyIncreasing}
 use Rattle.mc_cond.specs.Tree.{Tree}
 use Rattle.mc_pairs.specs.Pairs.{HasInfluenceAs}
-use Rattle.mc_needs.specs.Needs.{IsMarked}
+use Rattle.mc_needs.specs.steps.Marks.{IsMarked}
 
 -- those of the first n paths of which a fact holds, in ascending order
 pub record AreAmong (holds : ℕ → Type 0) (n : ℕ) (paths : List ℕ) : Type 0 where

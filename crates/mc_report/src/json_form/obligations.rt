@@ -16,8 +16,8 @@ use crate::json_form::members::{push_comma, push_key, push_null, push_number, pu
 use crate::places::{line_starts, place_at};
 use crate::quoted::text_of;
 use crate::report::Report;
-use crate::shown::{name_of, path_vector};
 use crate::words::verdict_word;
+use evidence_texts::{name_of, path_vector};
 use mc_oblige::{Evidence, Obligation, ObligationId, Reason, Verdict, id_text};
 use mc_probe::MappedDecision;
 use mc_typed::Name;

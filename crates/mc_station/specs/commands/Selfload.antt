@@ -26,7 +26,7 @@ abbrev pub Sums : (skipped : List ℕ) → (count : ℕ) → Accepted → List P
 Sums skipped count accepted plans =
     SumsOn (stands skipped accepted plans) count accepted (tested_of accepted.program plans)
 
--- the source of so many functions, and its tests, with the usual fuel
+-- the source of this number of functions, and its tests, with the usual fuel
 abbrev pub LoadsItself : (skipped : List ℕ) → (count : ℕ) → Reply → Type 0
 LoadsItself skipped count =
     Reaches (JudgesSource (source_text count)) (λ accepted.

@@ -31,7 +31,7 @@ end_line count all =
 abbrev pub watch_lines : (counts : List ℕ) → (recorded all : ℕ) → List (List ℕ)
 watch_lines counts recorded all = look_lines 1 counts all ++ end_line recorded all ∷ []
 
--- so many looks, none of which counts less than the one before, or more than there is at the end
+-- this number of looks; none counts less than the one before, or more than there is at the end
 pub record AreCounted (looks : ℕ) (counts : List ℕ) (recorded : ℕ) : Type 0 where
   pub as_many : length counts ≡ looks
   pub rising : IsNonDecreasing counts

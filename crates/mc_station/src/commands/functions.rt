@@ -17,8 +17,8 @@ use mc_report::Report;
 use mc_typed::TestState;
 use std::alloc::{AllocError, Global};
 
-// The bytes of a name, where there is one.
-fn bytes_in(name: Option<&str>) -> Option<&[u8]>
+/// The bytes of a name, where there is one.
+pub fn bytes_in(name: Option<&str>) -> Option<&[u8]>
     ensures { option_map (λ bytes. bytes.now) result ≡ option_map (λ name. name.now) name.entry }
 {
     match name {

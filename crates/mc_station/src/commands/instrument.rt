@@ -11,14 +11,13 @@ use crate::reply::Reply;
 use mc_lex::{Dialect, LexFault, Token, lex};
 use std::alloc::{AllocError, Global};
 
-// The tokens of a source that has them, read again.
-fn tokens_of<'a>(alloc: Global, accepted: &Accepted<'a>) -> Result<Vec<Token<'a>>, AllocError>
-    requires short { length accepted.now.source.now < 2 ^ 31 }
-    requires tokens { HasTokens accepted.now }
-    ensures { IfOk result (λ tokens.
-        Lexes accepted.now.source.now (Ok (toks_of tokens.items))) }
+/// The tokens of a source that has them, read again.
+pub fn tokens_of<'a>(alloc: Global, source: &'a [u8]) -> Result<Vec<Token<'a>>, AllocError>
+    requires short { length source.now < 2 ^ 31 }
+    requires tokens { HasTokens source.now }
+    ensures { IfOk result (λ tokens. Lexes source.now (Ok (toks_of tokens.items))) }
 {
-    match lex(alloc, accepted.source, Dialect::Plain) {
+    match lex(alloc, source, Dialect::Plain) {
         Ok(tokens) => Ok(tokens),
         Err(LexFault::OutOfMemory) => Err(AllocError),
         Err(_) => unreachable!(),
@@ -28,11 +27,10 @@ fn tokens_of<'a>(alloc: Global, accepted: &Accepted<'a>) -> Result<Vec<Token<'a>
 /// The reply of `instrument`: the text of the program with its probes.
 pub fn instrument<'a>(alloc: Global, accepted: Accepted<'a>) -> Result<Reply<'a>, AllocError>
     requires instrumented { HasItsTree accepted }
-    requires tokens { HasTokens accepted }
     ensures { IfOk result (λ reply.
         Instruments (seen_accepted accepted.entry) (seen_reply reply)) }
 {
-    match tokens_of(alloc, &accepted) {
+    match tokens_of(alloc, accepted.source) {
         Ok(tokens) => {
             let Accepted {
                 source: _,

@@ -54,7 +54,7 @@ fn change_line(source: &[u8], change: Change) -> ChangeLine
     }
 }
 
-// What is told of the change in each of so many mutants.
+// What is told of the change in each of this number of mutants.
 fn change_lines(
     alloc: Global,
     source: &[u8],

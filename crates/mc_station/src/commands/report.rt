@@ -53,6 +53,7 @@ pub fn report_on<'a>(
     ensures made { IfOk result (λ report. let a = seen_accepted accepted.entry in
         IsReportOn (HasEvent a.map matrix.now) mode a (seen_tested tests)
         justifications.now (report_of report)) }
+    ensures map { IfOk result (λ report. report.map ≡ accepted.entry.map) }
     ensures whole { IfOk result (λ report. IsReport (report_of report)) }
     ensures texts { IfOk result (λ report. All IsUtf8 (report_of report).names) }
 {

@@ -1,4 +1,4 @@
-//! Declarations.
+//! The tree of a declaration (C17 6.7).
 use crate::declarations::init_declarator::InitDeclarator;
 use crate::declarations::specifier::Specifier;
 use mc_span::Span;

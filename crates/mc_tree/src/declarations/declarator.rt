@@ -1,4 +1,4 @@
-//! Declarators.
+//! The tree of a declarator (C17 6.7.6).
 use crate::declarations::array_length::ArrayLength;
 use crate::declarations::parameter::Parameter;
 use crate::identifier::Identifier;

@@ -1,4 +1,4 @@
-//! Initializers.
+//! The tree of an initializer (C17 6.7.9).
 use crate::expressions::expression::Expression;
 use mc_span::Span;
 

@@ -1,4 +1,4 @@
-//! Declaration specifiers.
+//! The tree of a specifier (C17 6.7.1 to 6.7.3).
 ghost use Rattle.std.specs.Prelude.{◌≡◌};
 ghost use Rattle.mc_tree.specs.Tree.{span_of_specifier};
 ghost use Rattle.mc_tree.specs.Views.{specifier_of};

@@ -1,4 +1,4 @@
-//! Expressions.
+//! The tree of an expression (C17 6.5).
 ghost use Rattle.std.specs.Prelude.{◌≡◌};
 ghost use Rattle.mc_tree.specs.Tree.{span_of};
 ghost use Rattle.mc_tree.specs.Views.{expression_of};

@@ -1,4 +1,4 @@
-//! Statements.
+//! The tree of a statement (C17 6.8).
 ghost use Rattle.std.specs.Prelude.{◌≡◌};
 ghost use Rattle.mc_tree.specs.Tree.{span_of_statement};
 ghost use Rattle.mc_tree.specs.Units.{statement_of};

@@ -1,4 +1,4 @@
-//! External declarations.
+//! The tree of a declaration or a function definition of a source (C17 6.9).
 use crate::declarations::declaration::Declaration;
 use crate::declarations::declarator::Declarator;
 use crate::declarations::specifier::Specifier;

@@ -1,4 +1,4 @@
-//! Translation units.
+//! The tree of a whole source (C17 6.9).
 ghost use Rattle.std.specs.Prelude.{◌≤◌, ◌<◌, ◌^◌};
 ghost use Rattle.mc_tree.specs.Units.{items_of};
 ghost use Rattle.mc_tree.specs.Height.{height_unit};

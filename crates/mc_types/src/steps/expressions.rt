@@ -58,7 +58,7 @@ pub(crate) fn argument(
     }
 }
 
-/// A call with so many arguments (C17 6.5.2.2).
+/// A call with this number of arguments (C17 6.5.2.2).
 #[inline(never)]
 pub(crate) fn call(
     alloc: Global,

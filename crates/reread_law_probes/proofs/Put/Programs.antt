@@ -1,19 +1,19 @@
 -- The walk over functions and programs.
-use Rattle.std.proofs.Common.{◌≡◌, ◌==◌, refl, sym, ap, subst, ◌∙◌, ℕ, ◌<◌, ◌≤◌, Bool, true, false, if◌then◌else◌, List, [], ◌∷◌, map, Option, Some, None, option_and_then, unwrap_or, arith}
+use Rattle.std.proofs.Common.{◌≡◌, ◌==◌, refl, sym, ap, subst, ◌∙◌, ℕ, ◌<◌, ◌≤◌, Bool, true, false, if◌then◌else◌, List, [], ◌∷◌, length, map, Option, Some, None, option_and_then, unwrap_or, arith}
 use Rattle.std.proofs.lemmas.Bool.{eqb-true}
 use Rattle.mc_limits.specs.Limits.{most_bits}
 use Rattle.mc_span.specs.declared.span.Span.{Span}
 use Rattle.reread_pieces.specs.declared.piece.What.{What}
 use Rattle.reread_pieces.specs.declared.piece.What.TheVariants as what
 use Rattle.reread_pieces.specs.declared.placed.Placed.{Placed}
-use Rattle.mc_probe.specs.Erase.{erase_function, erase_statements}
+use Rattle.mc_probe.specs.Erase.{erase, erase_function, erase_statements}
 use Rattle.mc_probe.specs.Tree as p
 use Rattle.mc_probe.specs.WellFormed.{FitStatements, FitFunctions}
 use Rattle.reread_law_rows.specs.inserted.Rows.{Row, of_function, entry_row, exit_row, rows_in_statements, rows_in_function, rows_in_functions}
 use Rattle.reread_law_rows.specs.inserted.Seats.{ArePlaced}
 use Rattle.reread_put_back.specs.Pens.{Pen, Walk, begun, each, gives, is_same, next_at, put, put_found, ◌>>=◌}
 use Rattle.reread_put_back.specs.Rows.{end_of, entry_bit, exit_bit, register_count}
-use Rattle.reread_put_back.specs.Back.{back_function, back_statements, first_fault, unless}
+use Rattle.reread_put_back.specs.Back.{back_function, back_statements, faults, first_fault, unless}
 use Rattle.reread_law_texts.specs.apart.Distinct.{IsDistinct}
 use Rattle.reread_law_probes.specs.put.Places.{in_statements, in_functions}
 use Rattle.reread_law_probes.specs.put.Ends.{EndBit, EndFunction, EndFunctions}
@@ -192,7 +192,7 @@ put_back_is tree placed q h =
     let bits : tree.bits ≤ out.1.bits = q.least out.1.bits (w.has out.1.bits (omega arith)) in
     let same : out.1.bits ≡ tree.bits = omega (arith, within, bits) in
     let left : out.1.left ≡ [] = none_left out.1.left w.left in
-    λ i. unless (first_fault (left i) (w.fault i)) (record {
+    λ i. unless (first_fault (faults (length placed) (erase tree.program)) placed (left i) (w.fault i)) (record {
       program = record {
         functions = w.value i;
         statics = tree.program.statics;

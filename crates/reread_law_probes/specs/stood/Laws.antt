@@ -26,7 +26,7 @@ ProgramsStandApart =
     → typing_of unit ≡ Some p → IsDistinct (stands_in_unit unit)
     → IsDistinct (places_of (instrumented m p))
 
--- Both together.
+-- The places of the statements and those of the probes: both laws at once.
 abbrev pub PlacesAreApart : Type 0
 PlacesAreApart =
     (d : Dialect) (tokens : List Tok) (unit : List Item) (p : Program) (m : Map)

@@ -1,4 +1,4 @@
-use Rattle.std.proofs.Common.{length, ap, arith}
+use Rattle.std.proofs.Common.{[], ◌∷◌, length, ap, arith}
 use Rattle.laws_verdicts.proofs.laws.failures_are_told.Goals as goal
 
 pub returns-clause-want : goal.returns-clause-want

@@ -2,7 +2,8 @@ use Rattle.std.proofs.Common.{ℕ, Option, List, sym, subst, arith}
 use Rattle.mc_cond.specs.Tree.{Tree, tree_of}
 use Rattle.mc_paths.specs.Paths.{count_of}
 use Rattle.mc_paths.proofs.Numbers.{in_use_below}
-use Rattle.mc_needs.specs.Needs.{IsHalfKnown, IsMarked}
+use Rattle.mc_needs.specs.Needs.{IsHalfKnown}
+use Rattle.mc_needs.specs.steps.Marks.{IsMarked}
 use Rattle.mc_needs.specs.steps.Among.{AreAmong, IsAny}
 use Rattle.mc_needs.specs.steps.Pairing.{IsLeastIfAny}
 use Rattle.mc_needs.proofs.Trees.{same_tree}

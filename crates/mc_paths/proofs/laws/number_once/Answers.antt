@@ -2,4 +2,4 @@ use Rattle.mc_paths.proofs.Numbers.{vector_once}
 use Rattle.mc_paths.proofs.laws.number_once.Goals as goal
 
 pub returns : goal.returns
-returns c = λ t v w n. vector_once t v w
+returns c = vector_once

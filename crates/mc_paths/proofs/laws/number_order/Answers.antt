@@ -2,4 +2,4 @@ use Rattle.mc_paths.proofs.Numbers.{vector_order}
 use Rattle.mc_paths.proofs.laws.number_order.Goals as goal
 
 pub returns : goal.returns
-returns c = λ t v w n. vector_order t v w
+returns c = vector_order

@@ -19,15 +19,15 @@ returns-in_default-clause-unreadable g t c = λ is. absurd (end_is_read (g.C.Clo
 pub returns-in_default-clause-texts : goal.returns-in_default-clause-texts
 returns-in_default-clause-texts g t c = end_has_texts (g.C.Closer.skipped c.args.means.closer.now) (seen_stage c.args.stage) c.end.result c.end.ensures
 
-pub returns-in-Ok-judge-clause-leads : goal.returns-in-Ok-judge-clause-leads
-returns-in-Ok-judge-clause-leads g t c =
+pub returns-in-Ok-accept-clause-leads : goal.returns-in-Ok-accept-clause-leads
+returns-in-Ok-accept-clause-leads g t c =
     let old = g.S.Store.state c.args.store.now in
     let new = g.S.Store.state c.load.new.self in
     let next = c.in-Some.ensures in
     let asked = rw c.limit.ensures at c.in-Ok.ensures.asked in
     let loads = rw c.limit.ensures at c.in-Ok.ensures.bytes in
-    let judges = rw c.deref.ensures.value at c.in-Ok-judge.ensures.judges in
-    accepted (g.C.Closer.skipped c.args.means.closer.now) old.contents (seen_stage c.args.stage) old.asked new.asked (seen_file c.in-Some.file) next asked (seen_stage c.in-Ok-judge.stage) c.in-Ok.bytes.items new.contents
+    let judges = c.in-Ok-accept.ensures.judges in
+    accepted (g.C.Closer.skipped c.args.means.closer.now) old.contents (seen_stage c.args.stage) old.asked new.asked (seen_file c.in-Some.file) next asked (seen_stage c.in-Ok-accept.stage) c.in-Ok.bytes.items new.contents
     (outcome_of c.run.result) _ loads.1 loads.0 judges c.load.ensures.contents c.run.ensures.leads
 
 pub returns-in-Err-clause-leads : goal.returns-in-Err-clause-leads
@@ -37,7 +37,7 @@ returns-in-Err-clause-leads g t c =
     let next = c.in-Some.ensures in
     let asked = rw c.limit.ensures at c.in-Ok.ensures.asked in
     let loads = rw c.limit.ensures at c.in-Ok.ensures.bytes in
-    let judges = subst (λ (bytes : List ℕ). Gives seen_stage (Judges (seen_stage c.args.stage) bytes) (Err c.in-Err.stop)) c.deref.ensures.value c.in-Err.ensures.judges in
+    let judges = c.in-Err.ensures.judges in
     refused (g.C.Closer.skipped c.args.means.closer.now) old.contents (seen_stage c.args.stage) old.asked new.asked (seen_file c.in-Some.file) next asked c.in-Err.stop c.in-Ok.bytes.items c.of_stop.result
     c.of_stop.ensures loads.1 loads.0 judges
 
@@ -68,8 +68,8 @@ returns-in-Err-OutOfMemory-clause-leads g t c =
 pub run-requires-clause-room : goal.run-requires-clause-room
 run-requires-clause-room g t c κs within =
     let slots = c.args.slots.now in
-    let judges = rw c.deref.ensures.value at c.in-Ok-judge.ensures.judges in
-    let less = fewer (seen_stage c.args.stage) (seen_stage c.in-Ok-judge.stage) c.in-Ok.bytes.items judges in
+    let judges = c.in-Ok-accept.ensures.judges in
+    let less = fewer (seen_stage c.args.stage) (seen_stage c.in-Ok-accept.stage) c.in-Ok.bytes.items judges in
     let room = c.requires.room in
     let rest = length-drop 1 slots in
     let same = ap length (take_all (length slots - 1) (drop 1 slots) (omega (arith, rest))) in

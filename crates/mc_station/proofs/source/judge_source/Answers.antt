@@ -7,6 +7,9 @@ use Rattle.mc_station.specs.Source.{JudgesSource}
 use Rattle.mc_station.proofs.Judging.{at_decisions, at_types, goes_through, handed_on}
 use Rattle.mc_station.proofs.source.judge_source.Goals as goal
 
+pub mapped-requires-clause-tokens : goal.mapped-requires-clause-tokens
+mapped-requires-clause-tokens c = (toks_of c.in_ok-tokens.tokens.items, c.in_ok-tokens.ensures.lexes)
+
 pub returns-clause-judges : goal.returns-clause-judges
 returns-clause-judges c =
     goes_through c.args.source.now (toks_of c.in_ok-tokens.tokens.items) (items_of c.in_ok-unit.unit.items.items) (program_of c.in_ok-program.program) (map decision_of c.in_ok-decisions.decisions.items) c.mapped.result

@@ -18,7 +18,7 @@ pub returns-in-Ok-clause-instrumented : goal.returns-in-Ok-clause-instrumented
 returns-in-Ok-clause-instrumented c =
     let a : Accepted = record { source = c.args.source; tree = c.in-Ok.tree; map = c.in-Ok.map } in
     let sound = rw c.new.ensures.parts at c.new.ensures.sound in
-    rw c.new.ensures.parts (instrumented a (program_of c.args.program.now) c.in-Ok.ensures.erases c.requires.short sound c.in-Ok.ensures.instrumented)
+    rw c.new.ensures.parts (instrumented a (program_of c.args.program.now) c.in-Ok.ensures.erases c.requires.short c.requires.tokens sound c.in-Ok.ensures.instrumented)
 
 pub returns-in-Err-TooManyPaths-clause-judges : goal.returns-in-Err-TooManyPaths-clause-judges
 returns-in-Err-TooManyPaths-clause-judges c =

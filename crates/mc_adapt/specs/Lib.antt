@@ -1,0 +1,10 @@
+pub mod Words
+pub mod Sorts
+pub mod States
+pub mod Marks
+pub mod Texts
+pub mod Reasons
+pub mod Outside
+pub mod Adapted
+pub mod Seen
+pub mod Laws

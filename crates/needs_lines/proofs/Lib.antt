@@ -1,0 +1,5 @@
+pub mod Rising
+pub mod Cutting
+pub mod Heads
+pub mod Joined
+pub mod Deciding

@@ -1,0 +1,9 @@
+pub mod Parts
+pub mod Report
+pub mod Needed
+pub mod Conditions
+pub mod Remarks
+pub mod Wanted
+pub mod Text
+pub mod Laws
+pub mod Seen

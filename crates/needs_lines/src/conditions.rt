@@ -1,0 +1,144 @@
+//! The lines of the conditions of a decision.
+ghost use Rattle.std.specs.Prelude.{◌≡◌, ℕ, ◌++◌, ◌∷◌, [], None, Some, slice_index_or, IfOk, OnOk};
+ghost use Rattle.decide_rules.specs.Seen.{decision_of};
+ghost use Rattle.mc_cond.specs.Tree.{tree_of};
+ghost use Rattle.mc_probe.specs.Mapped.{mapped_of};
+ghost use Rattle.needs_lines.specs.Conditions.{asked_vectors, condition_line, condition_lines, values_text};
+ghost use Rattle.needs_lines.specs.Report.{IsOf};
+ghost use Rattle.needs_lines.specs.Seen.{bytes_of};
+
+use evidence_texts::{answer_byte, vector_of};
+use mc_cond::Vector;
+use mc_probe::MappedDecision;
+use mc_span::Span;
+use needed_paths::Need;
+use source_excerpt::{bytes_at, one_line};
+use std::alloc::{AllocError, Global};
+
+/// The answer of condition `k`, where the vector has one.
+fn answer_at(vector: &Vector, k: usize) -> Option<bool>
+    ensures { result ≡ slice_index_or vector.now.answers k None }
+{
+    if k < vector.len() as usize {
+        vector.answer(k as u32)
+    } else {
+        None
+    }
+}
+
+/// Adds the value of condition `k` in a vector, after a blank.
+fn push_value(line: &mut Vec<u8>, vector: &Vector, k: usize) -> Result<(), AllocError>
+    ensures { OnOk result (line.new.items ≡ line.old.items ++ values_text (vector.now ∷ []) k) }
+{
+    line.push(b' ')?;
+    line.push(answer_byte(answer_at(vector, k)))?;
+    Ok(())
+}
+
+/// Adds the values of condition `k`.
+fn push_values(line: &mut Vec<u8>, vectors: &[Vector], k: usize) -> Result<(), AllocError>
+    ensures { OnOk result (line.new.items ≡ line.old.items ++ values_text vectors.now k) }
+{
+    let mut left = vectors;
+    while let [vector, later @ ..] = left {
+        push_value(line, vector, k)?;
+        left = later;
+    }
+    Ok(())
+}
+
+fn condition_line(
+    alloc: Global,
+    source: &[u8],
+    vectors: &[Vector],
+    k: usize,
+    span: Span,
+) -> Result<Vec<u8>, AllocError>
+    ensures { IfOk result (λ line. line.items ≡ condition_line source.now vectors.now k span) }
+{
+    let text = one_line(alloc, bytes_at(source, span))?;
+    let mut line = Vec::new(alloc);
+    line.push(b' ')?;
+    push_values(&mut line, vectors, k)?;
+    line.push(b' ')?;
+    line.extend_from_slice(&text)?;
+    line.push(b'\n')?;
+    Ok(line)
+}
+
+fn push_condition(
+    alloc: Global,
+    lines: &mut Vec<Vec<u8>>,
+    source: &[u8],
+    vectors: &[Vector],
+    k: usize,
+    span: Span,
+) -> Result<(), AllocError>
+    ensures { OnOk result (bytes_of lines.new.items ≡ bytes_of lines.old.items
+        ++ condition_line source.now vectors.now k span ∷ []) }
+{
+    let line = condition_line(alloc, source, vectors, k, span)?;
+    lines.push(line)?;
+    Ok(())
+}
+
+/// Adds a line for each condition.
+fn push_all(
+    alloc: Global,
+    lines: &mut Vec<Vec<u8>>,
+    source: &[u8],
+    vectors: &[Vector],
+    spans: &[Span],
+) -> Result<(), AllocError>
+    ensures { OnOk result (bytes_of lines.new.items ≡ bytes_of lines.old.items
+        ++ condition_lines source.now vectors.now 0 spans.now) }
+{
+    let mut k = 0;
+    let mut left = spans;
+    while let [span, later @ ..] = left {
+        push_condition(alloc, lines, source, vectors, k, *span)?;
+        k += 1;
+        left = later;
+    }
+    Ok(())
+}
+
+/// The vectors that are asked for: one, or two.
+fn asked_vectors(
+    alloc: Global,
+    mapped: &MappedDecision,
+    need: Need,
+) -> Result<Vec<Vector>, AllocError>
+    requires { (tests : ℕ) × IsOf tests (Some (mapped_of mapped.now)) (Some need) }
+    ensures { IfOk result (λ v.
+        v.items ≡ asked_vectors (tree_of mapped.now.decision.tree) need) }
+{
+    let mut vectors = Vec::new(alloc);
+    match need {
+        Need::Vector { path } | Need::Beside { path, .. } => {
+            vectors.push(vector_of(mapped, path))?;
+        }
+        Need::Both { first, second } => {
+            vectors.push(vector_of(mapped, first))?;
+            vectors.push(vector_of(mapped, second))?;
+        }
+    }
+    Ok(vectors)
+}
+
+/// Adds a line for each condition of the decision, with the values that the need asks of it.
+pub(crate) fn push_conditions(
+    alloc: Global,
+    lines: &mut Vec<Vec<u8>>,
+    source: &[u8],
+    mapped: &MappedDecision,
+    need: Need,
+) -> Result<(), AllocError>
+    requires { (tests : ℕ) × IsOf tests (Some (mapped_of mapped.now)) (Some need) }
+    ensures { OnOk result (bytes_of lines.new.items ≡ bytes_of lines.old.items
+        ++ (let d = decision_of mapped.now.decision in
+        condition_lines source.now (asked_vectors d.tree need) 0 d.conditions)) }
+{
+    let vectors = asked_vectors(alloc, mapped, need)?;
+    push_all(alloc, lines, source, &vectors, &mapped.decision.conditions)
+}

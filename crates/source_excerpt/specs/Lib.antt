@@ -1,0 +1,4 @@
+pub mod Comments
+pub mod Blanks
+pub mod Excerpts
+pub mod steps

@@ -1,0 +1,9 @@
+//! Tests of `adapt`.
+#![tactic(auto)]
+
+#[cfg(test)]
+mod hostile;
+#[cfg(test)]
+mod refused;
+#[cfg(test)]
+mod written;

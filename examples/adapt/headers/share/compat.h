@@ -1,0 +1,2 @@
+/* What bitmath.h uses of it. */
+#define FLAC__U64L(x) x##ULL

@@ -1,0 +1,1 @@
+/* Nothing of stdlib.h is used. */
