@@ -104,7 +104,7 @@ fn called<R: Threads + Sync, C: Closer>(
     closer: &C,
 ) -> Result<Given, Fail> {
     let mut out = sink_of(alloc, ROOM)?;
-    let mut diag = sink_of(alloc, 1024)?;
+    let mut diag = sink_of(alloc, 4096)?;
     let gate = OpenGate::new();
     let status = station(rt, alloc, words, store, &mut out, &mut diag, &gate, closer);
     Ok(Given { status, out, diag })

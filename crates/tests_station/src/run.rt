@@ -131,7 +131,7 @@ fn called<R: Threads + Sync, G: Gate, C: Closer>(
     closer: &C,
 ) -> Result<Given, Fail> {
     let mut out = sink_of(alloc, setting.room, setting.failing_out)?;
-    let mut diag = sink_of(alloc, 1024, setting.failing_diag)?;
+    let mut diag = sink_of(alloc, 4096, setting.failing_diag)?;
     let status = station(rt, alloc, words, store, &mut out, &mut diag, gate, closer);
     Ok(Given { status, out, diag })
 }
