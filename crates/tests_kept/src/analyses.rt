@@ -1,11 +1,11 @@
 //! What `analyse` writes of a record: a report without values and output. Each text that is
 //! expected was written out by hand.
 
-use crate::fail::Fail;
 use crate::run::{gives, of_records};
 use crate::text::{BODY, EMPTY, HEAD, SOURCE, WITHOUT_FIRST};
 use std::alloc::Global;
 use std::thread::Threads;
+use tests_memory::Fail;
 
 /// The first lines of a record of an earlier version, which has the same lines else.
 const EARLIER: &str = "\

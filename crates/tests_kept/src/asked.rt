@@ -1,11 +1,11 @@
 //! The order in which the files of these commands are asked for and judged. Only `s.c`, `t.csv`,
 //! `LEFT` and `RIGHT` are there.
 
-use crate::fail::Fail;
 use crate::run::{Setting, gives};
 use crate::text::{BODY, HEAD, SOURCE, TESTS};
 use std::alloc::Global;
 use std::thread::Threads;
+use tests_memory::Fail;
 
 const UNDECLARED: &str = "int f(int a,int b){return c;}";
 

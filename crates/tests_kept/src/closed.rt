@@ -1,12 +1,12 @@
 //! What is kept where the closer leaves out tests: their states, and none of their bits. Each text
 //! that is expected was written out by hand.
 
-use crate::fail::Fail;
 use crate::run::{gives_by, of_tests};
 use crate::text::{BODY, HEAD, SOURCE, TESTS, WITHOUT_FIRST};
 use mc_cover::SkippingCloser;
 use std::alloc::Global;
 use std::thread::Threads;
+use tests_memory::Fail;
 
 const WITHOUT_SECOND: &str = "\
 tests 3

@@ -2,10 +2,10 @@
 //! is told of each test, in each form, by either kind of independence, with a justification and
 //! without. Each text that is expected was written out by hand.
 
-use crate::fail::Fail;
 use crate::run::{Setting, gives, of_tests};
 use std::alloc::Global;
 use std::thread::Threads;
+use tests_memory::Fail;
 
 /// The first `a` is the same object, so the second one cannot change alone: it has a pair by
 /// masking, and none by unique cause.

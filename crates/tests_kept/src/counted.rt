@@ -1,11 +1,11 @@
 //! What `functions`, `needs` and `results` write. Each text that is expected was worked out by
 //! hand.
 
-use crate::fail::Fail;
 use crate::run::{gives, of_tests};
 use crate::text::{SOURCE, TESTS};
 use std::alloc::Global;
 use std::thread::Threads;
+use tests_memory::Fail;
 
 const TWO_TESTS: &str = "\
 test,call,arguments,inputs,expect,output

@@ -1,10 +1,10 @@
 //! Records that are refused: with one line changed, and cut off.
 
-use crate::fail::Fail;
 use crate::run::{gives, of_records};
 use crate::text::SOURCE;
 use std::alloc::Global;
 use std::thread::Threads;
+use tests_memory::Fail;
 
 /// The lines of the record of three tests.
 static LINES: [&str; 14] = [

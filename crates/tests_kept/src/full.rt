@@ -1,10 +1,10 @@
 //! Records, lists, reduced suites and mutants of decisions with operators that are evaluated in
 //! full. Each text that is expected was worked out by hand.
 
-use crate::fail::Fail;
 use crate::run::{Setting, gives};
 use std::alloc::Global;
 use std::thread::Threads;
+use tests_memory::Fail;
 
 /// One of the decision's seven numbers is idle.
 const XOR: &str = "int f(int a,int b,int c){return (a<1^b<1)&&c;}";

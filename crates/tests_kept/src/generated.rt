@@ -1,8 +1,8 @@
 //! The generated program with one function: its source has one line, its tests file 17.
 
-use crate::fail::Fail;
 use crate::text::HEADER;
 use mc_gen::generate;
+use tests_memory::Fail;
 
 const LINE: &str = "\
 int g1(int a,int b,int c,int d){int s=0;int i;for(i=0;i<8;i++){if(a<b&&c<d)s++;}return s;}

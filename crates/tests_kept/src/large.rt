@@ -1,10 +1,10 @@
 //! Records and matrices at their limits.
 
-use crate::fail::Fail;
 use crate::run::{gives, of_records, of_tests};
 use crate::text::{BODY, HEAD, HEADER, SOURCE, push};
 use std::alloc::Global;
 use std::thread::Threads;
+use tests_memory::Fail;
 
 /// How many statements that do nothing a source has, which bits it has with its entry and its exit,
 /// and its digest by `sha256sum`.

@@ -1,6 +1,7 @@
 //! Tests of the commands that keep records, join and report on them, that choose among tests, try
-//! them on mutants and list a source, and of the large program: what no clause says. Runs succeed
-//! with ample memory, and the definitions are the ones meant.
+//! them on mutants, list a source and say what is needed, and of the large program: what no clause
+//! says. Runs succeed with ample memory, and the definitions are the ones meant. Of `needs` the
+//! lines were worked out by hand from the definitions, over truth tables.
 #![tactic(auto)]
 
 #[cfg(test)]
@@ -13,8 +14,6 @@ mod closed;
 mod compared;
 #[cfg(test)]
 mod counted;
-#[cfg(test)]
-mod fail;
 #[cfg(test)]
 mod faults;
 #[cfg(test)]
@@ -29,6 +28,14 @@ mod listed;
 mod merges;
 #[cfg(test)]
 mod mutated;
+#[cfg(test)]
+mod needed;
+#[cfg(test)]
+mod needed_decisions;
+#[cfg(test)]
+mod needed_files;
+#[cfg(test)]
+mod needed_remarks;
 #[cfg(test)]
 mod records;
 #[cfg(test)]

@@ -1,12 +1,12 @@
 //! Which mark `list` gives each line of a source. Each text that is expected was worked out by
 //! hand.
 
-use crate::fail::Fail;
 use crate::run::{gives, gives_by, of_tests};
 use crate::text::{SOURCE, TESTS};
 use mc_cover::SkippingCloser;
 use std::alloc::Global;
 use std::thread::Threads;
+use tests_memory::Fail;
 
 const TWO_TESTS: &str = "\
 test,call,arguments,inputs,expect,output

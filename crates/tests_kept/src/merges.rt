@@ -1,10 +1,10 @@
 //! What `merge` writes of two records. Each text that is expected was written out by hand.
 
-use crate::fail::Fail;
 use crate::run::{gives, of_records, record_of};
 use crate::text::{BODY, EMPTY, HEAD, SOURCE, many_record, many_tests};
 use std::alloc::Global;
 use std::thread::Threads;
+use tests_memory::Fail;
 
 const FIRST: &str = "\
 tests 1

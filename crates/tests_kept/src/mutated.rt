@@ -1,12 +1,12 @@
 //! Which mutants `mutate` says that the tests kill. Each text that is expected was worked out by
 //! hand.
 
-use crate::fail::Fail;
 use crate::run::{gives, gives_by, of_tests};
 use crate::text::{HEADER, SOURCE, TESTS};
 use mc_cover::SkippingCloser;
 use std::alloc::Global;
 use std::thread::Threads;
+use tests_memory::Fail;
 
 const ALL_KILLED: &str = "\
 M1 1:27 exchanged killed by t2

@@ -1,10 +1,10 @@
 //! What `record` writes. Each text that is expected was written out by hand.
 
-use crate::fail::Fail;
 use crate::run::{gives, of_tests};
 use crate::text::{BODY, EMPTY, HEAD, HEADER, SOURCE, TESTS, many_record, many_tests};
 use std::alloc::Global;
 use std::thread::Threads;
+use tests_memory::Fail;
 
 const RECORD: &str = "record|s.c|t.csv";
 

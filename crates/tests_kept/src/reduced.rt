@@ -1,11 +1,11 @@
 //! Which tests `reduce` keeps, and what for. Each text that is expected was worked out by hand.
 
-use crate::fail::Fail;
 use crate::run::{gives, gives_by, of_tests};
 use crate::text::{HEADER, SOURCE, TESTS};
 use mc_cover::SkippingCloser;
 use std::alloc::Global;
 use std::thread::Threads;
+use tests_memory::Fail;
 
 const FOUR_TESTS: &str = "\
 test,call,arguments,inputs,expect,output

@@ -1,12 +1,12 @@
 //! Runs of the top call over a store and sinks in memory.
 
-use crate::fail::Fail;
 use crate::text::JUSTIFICATIONS;
 use mc_cover::{Closer, PlainCloser};
 use mc_port::{MemorySink, MemoryStore, OpenGate, Words};
 use mc_station::station;
 use std::alloc::Global;
 use std::thread::Threads;
+use tests_memory::{Fail, push_file, sink_of, words_of};
 
 /// How many bytes the output takes: more than any of these runs writes.
 const ROOM: u32 = 131_072;
@@ -52,27 +52,6 @@ pub fn of_records<'a>(
 /// A status, and what both sinks have.
 pub type Want<'a> = (u8, &'a [u8], &'a [u8]);
 
-fn words_of(alloc: Global, text: &str) -> Result<Words, Fail> {
-    let mut words = Words::new(alloc);
-    for word in text.split('|') {
-        if words.count() < 12 {
-            words.push(word)?;
-        }
-    }
-    Ok(words)
-}
-
-fn push_file(
-    alloc: Global,
-    files: &mut Vec<(String, Vec<u8>)>,
-    name: &str,
-    bytes: &[u8],
-) -> Result<(), Fail> {
-    let name = String::from_str(alloc, name)?;
-    files.push((name, bytes.to_vec(alloc)?))?;
-    Ok(())
-}
-
 fn store_of(alloc: Global, setting: &Setting<'_>) -> Result<MemoryStore, Fail> {
     let mut files = Vec::new(alloc);
     push_file(alloc, &mut files, "s.c", setting.source)?;
@@ -81,10 +60,6 @@ fn store_of(alloc: Global, setting: &Setting<'_>) -> Result<MemoryStore, Fail> {
     push_file(alloc, &mut files, "RIGHT", setting.right)?;
     push_file(alloc, &mut files, "j.json", JUSTIFICATIONS.as_bytes())?;
     Ok(MemoryStore::new(alloc, files, Vec::new(alloc)))
-}
-
-fn sink_of(alloc: Global, room: u32) -> Result<MemorySink, Fail> {
-    Ok(MemorySink::new(alloc, room, Vec::new(alloc))?)
 }
 
 /// What a run gave.

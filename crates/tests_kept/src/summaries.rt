@@ -1,11 +1,11 @@
 //! What `selfload` writes of its program, and the words of these commands that are refused. Each
 //! text that is expected was written out by hand.
 
-use crate::fail::Fail;
 use crate::run::{gives, of_tests};
 use station_replies::usage_text;
 use std::alloc::Global;
 use std::thread::Threads;
+use tests_memory::Fail;
 
 /// `a<b&&c<d` has every outcome and condition, and so has `a<b||c<d`.
 const ONE: &str = "\

@@ -1,7 +1,7 @@
 //! Texts of files, and texts that are put together.
 
-use crate::fail::Fail;
 use std::alloc::{AllocError, Global};
+use tests_memory::Fail;
 
 pub const SOURCE: &str = "int f(int a,int b){return a&&b;}";
 

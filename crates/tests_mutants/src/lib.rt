@@ -3,8 +3,6 @@
 #![tactic(auto)]
 
 #[cfg(test)]
-mod fail;
-#[cfg(test)]
 mod most;
 #[cfg(test)]
 mod run;

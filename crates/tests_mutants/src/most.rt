@@ -1,9 +1,9 @@
 //! How many mutants a program may have.
 
-use crate::fail::Fail;
 use crate::run::{Want, gives};
 use std::alloc::{AllocError, Global};
 use std::thread::Threads;
+use tests_memory::Fail;
 
 const HEADER: &str = "test,call,arguments,inputs,expect,output\n";
 

@@ -1,8 +1,8 @@
 //! The files of these tests. The records were written by hand.
 
-use crate::fail::Fail;
 use mc_port::MemoryStore;
 use std::alloc::Global;
+use tests_memory::Fail;
 
 /// One decision of two conditions.
 const SOURCE: &str = "int f(int a,int b){return a&&b;}";

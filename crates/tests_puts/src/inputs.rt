@@ -1,9 +1,9 @@
 //! Files that are cut off, or that nobody means well by.
 
-use crate::fail::Fail;
 use crate::run::{NONE, run_over};
 use std::alloc::Global;
 use std::thread::Threads;
+use tests_memory::Fail;
 
 /// A source with most of the forms that the grammar has.
 const FLAP: &str = r#"# 1 "flap.c"

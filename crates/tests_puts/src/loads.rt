@@ -1,9 +1,9 @@
 //! Each load fails in turn.
 
-use crate::fail::Fail;
 use crate::run::{Faults, NONE, run};
 use std::alloc::Global;
 use std::thread::Threads;
+use tests_memory::Fail;
 
 /// Rows `FILES@WORDS`: the names of the files that are asked for, in order, with `,` after each.
 const ROWS: &str = "\

@@ -1,10 +1,10 @@
 //! Each put on the output fails in turn.
 
-use crate::fail::Fail;
 use crate::pieces::{Pieces, part_of, pieces_named};
 use crate::run::{Faults, NONE, run};
 use std::alloc::Global;
 use std::thread::Threads;
+use tests_memory::Fail;
 
 /// Rows `PIECES@PUTS@STATUS@WORDS`: how the text is put, with how many puts, which were counted by
 /// hand, and the status where none fails. A command whose text may differ from run to run has a row

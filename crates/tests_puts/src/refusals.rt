@@ -1,9 +1,9 @@
 //! The put on the errors' sink fails.
 
-use crate::fail::Fail;
 use crate::run::{Faults, NONE, run};
 use std::alloc::Global;
 use std::thread::Threads;
+use tests_memory::Fail;
 
 /// Rows `STATUS@LINE@WORDS`: the status and what is put on the errors' sink, where that does not
 /// fail. It is the usage where there is no line.

@@ -1,6 +1,5 @@
 //! Runs of the top call over the files, with faults of the outside.
 
-use crate::fail::Fail;
 use crate::files::store;
 use crate::noting::NotingSink;
 use mc_cover::PlainCloser;
@@ -8,6 +7,7 @@ use mc_port::{MemorySink, MemoryStore, OpenGate, Words};
 use mc_station::station;
 use std::alloc::Global;
 use std::thread::Threads;
+use tests_memory::{Fail, failing_sink, words_of};
 
 /// What fails: the load of a number, and on each sink the put of a number, which takes a number of
 /// bytes before it fails. There is no load and no put of the number 0.
@@ -33,21 +33,8 @@ pub struct Given {
     pub diag: NotingSink<MemorySink>,
 }
 
-// Words with `|` between each two, at most twelve.
-fn words_of(alloc: Global, text: &str) -> Result<Words, Fail> {
-    let mut words = Words::new(alloc);
-    for word in text.split('|') {
-        if words.count() < 12 {
-            words.push(word)?;
-        }
-    }
-    Ok(words)
-}
-
 fn sink(alloc: Global, failing: (u32, u32)) -> Result<NotingSink<MemorySink>, Fail> {
-    let mut list = Vec::new(alloc);
-    list.push(failing)?;
-    Ok(NotingSink::over(MemorySink::new(alloc, 8192, list)?))
+    Ok(NotingSink::over(failing_sink(alloc, 8192, failing)?))
 }
 
 fn called<R: Threads + Sync>(

@@ -1,12 +1,12 @@
 //! What is written where the closer leaves out tests. They run all the same, and nothing that they
 //! evaluate counts. Each text that is expected was written out by hand.
 
-use crate::fail::Fail;
 use crate::run::{SOURCE, TESTS, gives_by, of_files};
 use mc_cover::SkippingCloser;
 use mc_port::OpenGate;
 use std::alloc::Global;
 use std::thread::Threads;
+use tests_memory::Fail;
 
 const VECTORS: &str = "vectors|s.c|t.csv";
 

@@ -1,7 +1,7 @@
 //! Worked runs: how the runs of tests end. Each text that is expected was written out by hand.
 
-use crate::fail::Fail;
 use crate::row::is_written;
+use tests_memory::Fail;
 
 /// Traps, values that do not trap, and limits, as rows `CASE@WORDS@SOURCE@TESTS@STATUS@OUT@DIAG`
 /// with `~` between each two.

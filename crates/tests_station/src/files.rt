@@ -1,10 +1,10 @@
 //! Which tests files are accepted, and the limits of both files.
 
-use crate::fail::Fail;
 use crate::run::{HEADER, SOURCE, TESTS, Want, gives, plain};
 use crate::text::{lines_of, padded, push};
 use std::alloc::Global;
 use std::thread::Threads;
+use tests_memory::Fail;
 
 const NAME_64: &str = "aaaaaaaaaaaaaaaabbbbbbbbbbbbbbbbccccccccccccccccdddddddddddddddd";
 

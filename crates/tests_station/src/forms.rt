@@ -1,11 +1,11 @@
 //! Reports as rows of comma-separated fields and as JSON objects. Each text that is expected was
 //! written out by hand.
 
-use crate::fail::Fail;
 use crate::run::{SOURCE, TESTS, gives, has_number, of_files, plain};
 use crate::text::bytes_of;
 use std::alloc::Global;
 use std::thread::Threads;
+use tests_memory::Fail;
 
 const CSV: &str = "report|s.c|t.csv|--format|csv";
 

@@ -1,8 +1,8 @@
 //! Worked programs with operators that are evaluated in full. Each text that is expected was
 //! written out by hand.
 
-use crate::fail::Fail;
 use crate::row::is_written;
+use tests_memory::Fail;
 
 /// Rows `CASE@WORDS@SOURCE@TESTS@STATUS@OUT@DIAG`, with `~` between each two. First reports, then
 /// operands of each kind, what is no such operator, where such decisions stand, and traps.

@@ -1,10 +1,10 @@
 //! Runs whose files or texts are put together: many tests, many functions, and a long output.
 
-use crate::fail::Fail;
 use crate::run::{HEADER, Want, gives, of_files, plain};
 use crate::text::push;
 use std::alloc::Global;
 use std::thread::Threads;
+use tests_memory::Fail;
 
 /// A header, and as many tests of `f` with the two lowest bits of their number as arguments.
 pub fn many_tests(alloc: Global, count: u32) -> Result<String, Fail> {

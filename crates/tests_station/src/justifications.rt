@@ -1,10 +1,10 @@
 //! Files of justifications that are refused, and when they are asked for.
 
-use crate::fail::Fail;
 use crate::run::{REPORT, SOURCE, TESTS, Want, gives, of_files, plain};
 use crate::text::{bytes_of, padded};
 use std::alloc::Global;
 use std::thread::Threads;
+use tests_memory::Fail;
 
 const WORDS: &str = "report|s.c|t.csv|--justify|j.json";
 

@@ -1,7 +1,7 @@
 //! Worked reports with justifications. Each text that is expected was written out by hand.
 
-use crate::fail::Fail;
 use crate::row::is_justified;
+use tests_memory::Fail;
 
 /// Rows `JUSTIFICATIONS@CASE@WORDS@SOURCE@TESTS@STATUS@OUT@DIAG`, with `~` between each two.
 pub const ROWS: &str = "\

@@ -7,8 +7,6 @@ mod closers;
 #[cfg(test)]
 mod endings;
 #[cfg(test)]
-mod fail;
-#[cfg(test)]
 mod files;
 #[cfg(test)]
 mod forms;

@@ -1,11 +1,11 @@
 //! Two workers are inside tests at the same time.
 
-use crate::fail::Fail;
 use crate::run::{SOURCE, TESTS, gives_by, of_files};
 use mc_cover::PlainCloser;
 use mc_port::Gate;
 use std::sync::atomic::{AtomicU64, Ordering};
 use std::thread;
+use tests_memory::Fail;
 
 /// How often a worker looks whether the other one has come.
 const TURNS: u32 = 50_000_000;

@@ -1,10 +1,10 @@
 //! Words that are not a command, and faults of the outside.
 
-use crate::fail::Fail;
 use crate::run::{SOURCE, TESTS, gives, plain};
 use station_replies::usage_text;
 use std::alloc::Global;
 use std::thread::Threads;
+use tests_memory::Fail;
 
 /// Words with `|` between each two; the first line has none.
 const NOT_A_COMMAND: &str = "\n\

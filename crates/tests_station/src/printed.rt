@@ -1,11 +1,11 @@
 //! What `instrument` writes. Each text that is expected was written out by hand, from the table of
 //! what the probes insert.
 
-use crate::fail::Fail;
 use crate::row::is_written;
 use crate::run::{SOURCE, gives, of_files};
 use std::alloc::Global;
 use std::thread::Threads;
+use tests_memory::Fail;
 
 /// The text of the program of `a&&b`: bit 0 is the entry, 1 the exit, 2 the statement, and 3 to 5
 /// are the paths.

@@ -1,9 +1,9 @@
 //! Worked runs as texts.
 
-use crate::fail::Fail;
 use crate::run::{gives, plain};
 use std::alloc::Global;
 use std::thread::Threads;
+use tests_memory::Fail;
 
 /// A run: its words, the source, the tests file, the file of justifications, and what it gives.
 #[derive(Clone, Copy)]

@@ -1,12 +1,12 @@
 //! Runs of the top call over a store and sinks in memory.
 
-use crate::fail::Fail;
 use mc_cover::{Closer, PlainCloser};
 use mc_port::{Gate, MemorySink, MemoryStore, OpenGate, Words};
 use mc_station::station;
 use serde_json::Value;
 use std::alloc::Global;
 use std::thread::Threads;
+use tests_memory::{Fail, failing_sink, push_file, words_of};
 
 pub const HEADER: &str = "test,call,arguments,inputs,expect,output\n";
 
@@ -80,36 +80,14 @@ pub fn plain<'a>(source: &'a [u8], tests: &'a [u8]) -> Setting<'a> {
 /// A status, and what both sinks have.
 pub type Want<'a> = (u8, &'a [u8], &'a [u8]);
 
-fn words_of(alloc: Global, text: &str) -> Result<Words, Fail> {
-    let mut words = Words::new(alloc);
-    if text.is_empty() {
-        return Ok(words);
-    }
-    for word in text.split('|') {
-        if words.count() < 12 {
-            words.push(word)?;
-        }
-    }
-    Ok(words)
-}
-
 fn store_of(alloc: Global, setting: &Setting<'_>) -> Result<MemoryStore, Fail> {
     let mut files = Vec::new(alloc);
-    let name = String::from_str(alloc, "s.c")?;
-    files.push((name, setting.source.to_vec(alloc)?))?;
-    let name = String::from_str(alloc, "t.csv")?;
-    files.push((name, setting.tests.to_vec(alloc)?))?;
-    let name = String::from_str(alloc, "j.json")?;
-    files.push((name, setting.justifications.to_vec(alloc)?))?;
+    push_file(alloc, &mut files, "s.c", setting.source)?;
+    push_file(alloc, &mut files, "t.csv", setting.tests)?;
+    push_file(alloc, &mut files, "j.json", setting.justifications)?;
     let mut failing = Vec::new(alloc);
     failing.push(setting.failing_load)?;
     Ok(MemoryStore::new(alloc, files, failing))
-}
-
-fn sink_of(alloc: Global, room: u32, failing: (u32, u32)) -> Result<MemorySink, Fail> {
-    let mut list = Vec::new(alloc);
-    list.push(failing)?;
-    Ok(MemorySink::new(alloc, room, list)?)
 }
 
 /// What a run gave.
@@ -130,8 +108,8 @@ fn called<R: Threads + Sync, G: Gate, C: Closer>(
     gate: &G,
     closer: &C,
 ) -> Result<Given, Fail> {
-    let mut out = sink_of(alloc, setting.room, setting.failing_out)?;
-    let mut diag = sink_of(alloc, 4096, setting.failing_diag)?;
+    let mut out = failing_sink(alloc, setting.room, setting.failing_out)?;
+    let mut diag = failing_sink(alloc, 4096, setting.failing_diag)?;
     let status = station(rt, alloc, words, store, &mut out, &mut diag, gate, closer);
     Ok(Given { status, out, diag })
 }

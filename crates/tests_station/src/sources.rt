@@ -1,10 +1,10 @@
 //! Which sources are accepted, and the lines for those that are not.
 
-use crate::fail::Fail;
 use crate::run::{HEADER, gives, is_refused, of_files, plain};
 use crate::text::{lines_of, push};
 use std::alloc::Global;
 use std::thread::Threads;
+use tests_memory::Fail;
 
 /// A row is the place and the words of the line that refuses a source, or nothing where it is
 /// accepted, or `?` for `syntax` at any place; and after `@` the source, in which `$` is the end of

@@ -1,7 +1,7 @@
 //! Texts that are put together.
 
-use crate::fail::Fail;
 use std::alloc::{AllocError, Global};
+use tests_memory::Fail;
 
 /// Adds a text, which is made with `format!`, and lets it go.
 pub fn push(text: &mut String, made: Result<String, AllocError>) -> Result<(), Fail> {

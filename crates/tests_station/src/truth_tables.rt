@@ -2,11 +2,11 @@
 //! at each node, on its whole truth table, against values and vectors that are put together here
 //! from those of the operands.
 
-use crate::fail::Fail;
 use crate::run::{HEADER, gives, plain};
 use crate::text::push;
 use std::alloc::Global;
 use std::thread::Threads;
+use tests_memory::Fail;
 
 /// A node of an expression: a condition, or the operator that joins the two parts before it.
 #[derive(Clone, Copy)]

@@ -1,7 +1,6 @@
 //! What `watch` writes. What a look counts may differ from run to run; how much is recorded at the
 //! end was counted by hand.
 
-use crate::fail::Fail;
 use crate::run::{HEADER, SOURCE, TESTS, of_files, output_by};
 use mc_cover::{Closer, PlainCloser, SkippingCloser};
 use mc_port::{Gate, OpenGate};
@@ -9,6 +8,7 @@ use std::alloc::Global;
 use std::sync::atomic::{AtomicU64, Ordering};
 use std::thread;
 use std::thread::Threads;
+use tests_memory::Fail;
 
 /// One that does not pass counts as any other.
 const FAILED: &str = "\

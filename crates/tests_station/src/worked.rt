@@ -1,8 +1,8 @@
 //! Worked programs: what `report` and `vectors` write of them, and the lines on sources and tests
 //! files that are refused. Each text that is expected was written out by hand.
 
-use crate::fail::Fail;
 use crate::row::is_written;
+use tests_memory::Fail;
 
 /// Rows `CASE@WORDS@SOURCE@TESTS@STATUS@OUT@DIAG`, with `~` between each two. First vectors and
 /// pairs, then decisions wherever they stand, fuel and no test at all, then many conditions, a

@@ -1,12 +1,12 @@
 //! Runs by one worker and by many: they write the same.
 
-use crate::fail::Fail;
 use crate::generated::{many_tests, push_lines};
 use crate::row::{is_justified_by, is_written_by};
 use crate::run::{REPORT, SOURCE, TESTS, gives, of_files};
 use crate::{endings, justified, worked};
 use std::alloc::Global;
 use std::thread::Threads;
+use tests_memory::Fail;
 
 /// More than most of these runs have tests; without the option there are four.
 const SOME: u32 = 3;

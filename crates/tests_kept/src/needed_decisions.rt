@@ -1,8 +1,8 @@
 //! What decisions need, in both modes: with `!`, groups, operators that are evaluated in full, one
 //! decision in another, and under several tests.
 
-use crate::fail::Fail;
-use crate::run::{MASKING, Row, UNIQUE, is_written};
+use crate::needed::{MASKING, Row, UNIQUE, is_written};
+use tests_memory::Fail;
 
 /// Two decisions, of which a test reaches one.
 const GATED: &str = "\

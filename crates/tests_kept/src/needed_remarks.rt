@@ -1,7 +1,7 @@
 //! Conditions with one text and constants, and the texts of conditions.
 
-use crate::fail::Fail;
-use crate::run::{MASKING, Row, UNIQUE, is_written};
+use crate::needed::{MASKING, Row, UNIQUE, is_written};
+use tests_memory::Fail;
 
 static ROWS: [Row<'static>; 10] = [
     // The same condition in two groups, in both modes.

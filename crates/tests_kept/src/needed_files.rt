@@ -1,7 +1,7 @@
 //! The files of a preprocessed source, and what is justified.
 
-use crate::fail::Fail;
-use crate::run::{Row, UNIQUE, is_written};
+use crate::needed::{Row, UNIQUE, is_written};
+use tests_memory::Fail;
 
 /// Two functions of two files.
 const FILES: &str = "\
@@ -151,7 +151,7 @@ status 0
     },
     // What is justified is not wanted, and what is shown is stale: in all files, and in each alone.
     Row {
-        words: "needs|s.c|t.csv|--justify|j.json",
+        words: "needs|s.c|t.csv|--justify|RIGHT",
         source: FILES,
         tests: ONE_WAY,
         status: 1,
@@ -170,7 +170,7 @@ status 1
 ",
     },
     Row {
-        words: "needs|s.c|t.csv|--justify|j.json|--of|modes.c",
+        words: "needs|s.c|t.csv|--justify|RIGHT|--of|modes.c",
         source: FILES,
         tests: ONE_WAY,
         status: 1,
@@ -185,7 +185,7 @@ status 1
 ",
     },
     Row {
-        words: "needs|s.c|t.csv|--justify|j.json|--of|low.h",
+        words: "needs|s.c|t.csv|--justify|RIGHT|--of|low.h",
         source: FILES,
         tests: ONE_WAY,
         status: 1,
@@ -200,7 +200,7 @@ status 1
     },
     // Nothing is missing.
     Row {
-        words: "needs|s.c|t.csv|--justify|j.json",
+        words: "needs|s.c|t.csv|--justify|RIGHT",
         source: FILES,
         tests: BOTH_WAYS,
         status: 1,
@@ -210,7 +210,7 @@ status 1
 ",
     },
     Row {
-        words: "needs|s.c|t.csv|--justify|j.json|--of|modes.c",
+        words: "needs|s.c|t.csv|--justify|RIGHT|--of|modes.c",
         source: FILES,
         tests: BOTH_WAYS,
         status: 0,
@@ -220,7 +220,7 @@ status 0
 ",
     },
     Row {
-        words: "needs|s.c|t.csv|--justify|j.json|--of|low.h",
+        words: "needs|s.c|t.csv|--justify|RIGHT|--of|low.h",
         source: FILES,
         tests: BOTH_WAYS,
         status: 1,
