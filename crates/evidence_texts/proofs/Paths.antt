@@ -5,22 +5,16 @@ use Rattle.std.specs.Prelude.{slice_get}
 use Rattle.mc_cond.specs.Tree.{Tree, IsNumbered, tree_of}
 use Rattle.mc_cond.specs.Vectors.{Evaluation}
 use Rattle.mc_paths.specs.Paths.{IsPath, IsInUse}
-use Rattle.mc_paths.specs.steps.Descent.{Descent}
-use Rattle.mc_paths.proofs.Numbers.{descent_of, descent_used, vector_once}
+use Rattle.mc_paths.proofs.Numbers.{vector_once}
 use Rattle.mc_probe.specs.declared.mapped.MappedDecision.{MappedDecision}
 use Rattle.mc_probe.specs.Mapped.{mapped_of}
 use Rattle.mc_probe.specs.Maps.{Mapped}
 use Rattle.mc_probe.proofs.Kept.{equal_trees}
+use Rattle.evidence_texts.proofs.Table.{vector_has_path}
 use Rattle.evidence_texts.specs.Vectors.{vector_at}
 use Rattle.evidence_texts.specs.Paths.{HasPath}
 use Rattle.evidence_texts.specs.Paths.{path_text, path_vector}
 use Rattle.evidence_texts.specs.Words.{vector_text}
-
--- nothing is left of a number in use when it is followed
-pub vector_has_path : (t : Tree) (path : ℕ) → IsNumbered t → IsInUse t path → IsPath t path (vector_at t path)
-vector_has_path t path numbered (v, is) =
-    let left : Descent → ℕ = λ d. d.left in
-    descent_used t path numbered.in_order (ap left (descent_of t path v numbered.in_order is))
 
 -- a path has one vector
 pub vector_is : (t : Tree) (path : ℕ) (v : Evaluation) → IsNumbered t → IsPath t path v → v ≡ vector_at t path

@@ -1,4 +1,4 @@
-use Rattle.evidence_texts.proofs.Paths.{vector_has_path}
+use Rattle.evidence_texts.proofs.Table.{vector_has_path}
 use Rattle.mc_report.proofs.laws.vector_is_of_path.Goals as goal
 
 pub returns : goal.returns
