@@ -67,10 +67,20 @@ MCDC_FUNCTION void mcdc_begin(unsigned *sum) {
   *sum = 0;
 }
 
-/* A decision has its outcome: the sum tells which path its conditions took. */
+/* A decision has its outcome: the sum tells which path its conditions took. Where hits are stores, a way of its own for
+   each outcome makes the code of gcc shorter and faster, and that of clang 19 slower (docs/MEASURED.md). */
 MCDC_FUNCTION int mcdc_decision(const unsigned *sum, unsigned first, int outcome) {
+#if defined(MCDC_INLINE) && defined(__GNUC__) && !defined(__clang__)
+  if (outcome) {
+    mcdc_hit(first + *sum);
+    return 1;
+  }
+  mcdc_hit(first + *sum);
+  return 0;
+#else
   mcdc_hit(first + *sum);
   return outcome;
+#endif
 }
 
 /* A switch begins: none of its labels has been chosen. */
