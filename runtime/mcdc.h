@@ -52,12 +52,12 @@ MCDC_FUNCTION void mcdc_hit(unsigned bit) {
 
 /* As above, with a way of its own for each truth: on it a compiler may know the sum. */
 MCDC_FUNCTION int mcdc_condition(unsigned *sum, unsigned if_true, unsigned if_false, int truth) {
-  if (truth) {
-    *sum += if_true;
-    return 1;
+  if (!truth) {
+    *sum += if_false;
+    return 0;
   }
-  *sum += if_false;
-  return 0;
+  *sum += if_true;
+  return 1;
 }
 
 #endif
