@@ -68,7 +68,7 @@ MCDC_FUNCTION void mcdc_begin(unsigned *sum) {
 }
 
 /* A decision has its outcome: the sum tells which path its conditions took. Where hits are stores, a way of its own for
-   each outcome makes the code of gcc shorter and faster, and that of clang 19 slower (docs/MEASURED.md). */
+   each outcome makes the code of gcc faster, and that of clang 19 slower (docs/MEASURED.md). Both do the same. */
 MCDC_FUNCTION int mcdc_decision(const unsigned *sum, unsigned first, int outcome) {
 #if defined(MCDC_INLINE) && defined(__GNUC__) && !defined(__clang__)
   if (outcome) {
