@@ -52,12 +52,12 @@ MCDC_FUNCTION void mcdc_hit(unsigned bit) {
 
 /* As above, with a way of its own for each truth: on it a compiler may know the sum. */
 MCDC_FUNCTION int mcdc_condition(unsigned *sum, unsigned if_true, unsigned if_false, int truth) {
-  if (truth) {
-    *sum += if_true;
-    return 1;
+  if (!truth) {
+    *sum += if_false;
+    return 0;
   }
-  *sum += if_false;
-  return 0;
+  *sum += if_true;
+  return 1;
 }
 
 #endif
@@ -67,10 +67,20 @@ MCDC_FUNCTION void mcdc_begin(unsigned *sum) {
   *sum = 0;
 }
 
-/* A decision has its outcome: the sum tells which path its conditions took. */
+/* A decision has its outcome: the sum tells which path its conditions took. Where hits are stores, a way of its own for
+   each outcome makes the code of gcc faster, and that of clang 19 slower (docs/MEASURED.md). Both do the same. */
 MCDC_FUNCTION int mcdc_decision(const unsigned *sum, unsigned first, int outcome) {
+#if defined(MCDC_INLINE) && defined(__GNUC__) && !defined(__clang__)
+  if (outcome) {
+    mcdc_hit(first + *sum);
+    return 1;
+  }
+  mcdc_hit(first + *sum);
+  return 0;
+#else
   mcdc_hit(first + *sum);
   return outcome;
+#endif
 }
 
 /* A switch begins: none of its labels has been chosen. */
