@@ -68,7 +68,7 @@ module _ (k : Shape) where
   step_total b u s t (Claim id) is = ap (λ (x : Shared). total b u x.views) is.4 ∙ (total_kept (λ w. marks b u w.hits) s.views id is.0 (after_claim is.0 (draws s.words)) is.1 refl ∙ omega arith)
   step_total b u s t (Hit id bit test) is = ap (λ (x : Shared). total b u x.views) is.5 ∙ total_hit b u id bit test is.0 s.views is.1
   step_total b u s t (Join id other) is = ap (λ (x : Shared). total b u x.views) is.6 ∙ (total_join b u id other is.0 is.1 s.views is.2 is.3 is.4 is.5 ∙ omega arith)
-  step_total b u s t (Look id index) is = ap (λ (x : Shared). total b u x.views) is.4 ∙ (total_kept (λ w. marks b u w.hits) s.views id is.0 (after_look is.0 index (get_or (coverage s.words) index 0)) is.1 refl ∙ omega arith)
+  step_total b u s t (Look id index) is = ap (λ (x : Shared). total b u x.views) is.3 ∙ (total_kept (λ w. marks b u w.hits) s.views id is.0 (after_look is.0 index (get_or (coverage s.words) index 0)) is.1 refl ∙ omega arith)
 
   all_total : (b u : ℕ) (s t : Shared) (steps : List Step) → AreSteps k s steps t → total b u t.views ≡ total b u s.views + count_by (is_hit b u) steps
   all_total b u s t [] are = ap (λ (x : Shared). total b u x.views) are ∙ omega arith
@@ -82,7 +82,7 @@ module _ (k : Shape) where
   step_draws s t (Claim id) kept is = ap (λ (x : Shared). draws x.words) is.4 ∙ get_or-set_same s.words 0 (draws s.words + 1) 0 (omega (arith, kept.whole))
   step_draws s t (Hit id bit test) kept is = ap (λ (x : Shared). draws x.words) is.5 ∙ omega arith
   step_draws s t (Join id other) kept is = ap (λ (x : Shared). draws x.words) is.6 ∙ omega arith
-  step_draws s t (Look id index) kept is = ap (λ (x : Shared). draws x.words) is.4 ∙ omega arith
+  step_draws s t (Look id index) kept is = ap (λ (x : Shared). draws x.words) is.3 ∙ omega arith
 
   all_draws : (s t : Shared) (steps : List Step) → IsKept k s → AreSteps k s steps t → draws t.words ≡ draws s.words + count_by is_claim steps
   all_draws s t [] kept are = ap (λ (x : Shared). draws x.words) are ∙ omega arith

@@ -15,7 +15,7 @@ module _ (k : Shape) where
   step_kept s t (Claim id) all is = subst (IsKept k) (sym is.4) (all.claim id is.0 is.1 is.2 is.3)
   step_kept s t (Hit id bit test) all is = subst (IsKept k) (sym is.5) (all.hit id is.0 bit test is.1 is.2 is.3 is.4)
   step_kept s t (Join id other) all is = subst (IsKept k) (sym is.6) (all.join id is.0 other is.1 is.2 is.3 is.4 is.5)
-  step_kept s t (Look id index) all is = subst (IsKept k) (sym is.4) (all.look id is.0 index is.1 is.2)
+  step_kept s t (Look id index) all is = subst (IsKept k) (sym is.3) (all.look id is.0 index is.1 is.2)
 
   pub one_kept : (s t : Shared) (step : Step) → IsKept k s → IsStep k s step t → IsKept k t
   one_kept s t step kept is = step_kept s t step (keep k s kept) is

@@ -31,7 +31,7 @@ a_run_has_each_step = (
                   (_, refl, refl, refl, refl),
                   (
                     _,
-                    (_, refl, (λ e. cc), omega arith, refl),
+                    (_, refl, (λ e. cc), refl),
                     (_, (_, _, refl, refl, refl, refl, refl), (_, (_, _, refl, refl, refl, refl, refl), refl)),
                   ),
                 ),

@@ -2,7 +2,6 @@
 use Rattle.std.specs.Prelude.{◌≡◌, ◌≢◌, ◌<◌, ℕ, ◌==◌, ◌&&◌, Bool, true, false, List, [], ◌∷◌, Contains}
 use Rattle.mc_limits.specs.Limits.{most_workers}
 use Rattle.mc_core.specs.declared.shape.Shape.{Shape}
-use Rattle.mc_core.specs.Shape.{word_count}
 use Rattle.mc_cover.specs.declared.view.View.{View}
 use Rattle.mc_cover.specs.declared.view.Role.TheVariants.{Opener, Worker, Spent}
 use Rattle.mc_cover.specs.Rule.{Shared, HasView}
@@ -36,8 +35,7 @@ IsStep k s (Join id other) t =
     (v w : View) × HasView s id v × HasView s other w × (v.role ≡ Opener) × (w.role ≡ Worker)
     × (t ≡ joined s id v other w)
 IsStep k s (Look id index) t =
-    (v : View) × HasView s id v × (v.role ≢ Spent) × (index < word_count k)
-    × (t ≡ looked s id v index)
+    (v : View) × HasView s id v × (v.role ≢ Spent) × (t ≡ looked s id v index)
 
 -- the steps, one after the other, whichever pass makes each
 abbrev pub AreSteps : Shape → Shared → List Step → Shared → Type 0

@@ -21,3 +21,9 @@ abbrev pub FailuresAreCounted : Type 0
 FailuresAreCounted =
     (old new : Option (List ℕ)) (count : ℕ) (text : List ℕ)
     → count < 2 ^ 64 - 1 → ¬ Writes old new count count text (Err Put)
+
+-- so is one at the last count from which it can rise
+abbrev pub LastFailureIsCounted : Type 0
+LastFailureIsCounted =
+    (old new : Option (List ℕ)) (text : List ℕ)
+    → ¬ Writes old new (2 ^ 64 - 2) (2 ^ 64 - 2) text (Err Put)

@@ -1,5 +1,10 @@
 //! The functions do nothing: each has a law as its contract.
-ghost use Rattle.laws_verdicts.specs.Cases.{FailuresAreCounted, OneEventIsNoPair, WantPutsNothing};
+ghost use Rattle.laws_verdicts.specs.Cases.{
+  FailuresAreCounted,
+  LastFailureIsCounted,
+  OneEventIsNoPair,
+  WantPutsNothing,
+};
 ghost use Rattle.laws_verdicts.specs.Names.{NamesAreApart};
 ghost use Rattle.laws_verdicts.specs.Counts.{CountsAddUp, KindsAddUp, StatusIsCounted};
 
@@ -35,3 +40,10 @@ pub fn failures_are_told()
     ensures want { WantPutsNothing }
     ensures count { FailuresAreCounted }
 {}
+
+/// The same of a sink whose count can rise once more, and no further.
+pub fn last_failure_is_told()
+    ensures { LastFailureIsCounted }
+{
+    failures_are_told();
+}
