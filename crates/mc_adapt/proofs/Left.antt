@@ -212,9 +212,9 @@ module _ (s : State) (b : Bool) (l : Last) (p : Part) (g : Agree s.last l) where
   by_lack false x mark none e there after lack h r = plainly x mark none e there after lack h r
 
   grouped : (x : Sort) (mark : Mark) → (mark ≡ Stays → ⊥) → (state_after s x).last ≡ s.last → refused_as mark p ≡ [] → Stepped s b l (here p x mark)
-  grouped x Stays no e r = absurd (no refl)
-  grouped x Goes no e r = gone refl (subst (λ t. Agree t l) (sym e) g)
-  grouped x (Outside w) no e r = absurd (no_refusal w p r)
+  grouped x Stays not_so e r = absurd (not_so refl)
+  grouped x Goes not_so e r = gone refl (subst (λ t. Agree t l) (sym e) g)
+  grouped x (Outside w) not_so e r = absurd (no_refusal w p r)
 
   by_around : (a : Around) (x : Sort) (mark : Mark) → is_gap x ≡ false → sort_of p.kind p.text ≡ x → mark_of (plain_at b l) x p.text ≡ plain_mark (plain_at b l) x → state_after s x ≡ token_after s a x
       → around_mark s a x p.text ≡ mark → refused_as mark p ≡ [] → Stepped s b l (here p x mark)
