@@ -1,11 +1,11 @@
 -- What `adapt` gives.
-use Rattle.std.proofs.Common.{◌≡◌, ◌≢◌, ℕ, ◌<◌, ◌≤◌, List, [], ◌∷◌, length, Result, Ok, Err, refl, ap, subst, sym, ◌∙◌, arith}
+use Rattle.std.proofs.Common.{◌≡◌, ℕ, ◌<◌, List, [], ◌∷◌, length, Ok, Err, refl, ap, sym, ◌∙◌, arith}
 use Rattle.adapt_tokens.specs.Cuts.{Part, Cuts}
 use Rattle.mc_adapt.specs.declared.fault.Fault.{Fault}
 use Rattle.mc_adapt.specs.States.{start}
 use Rattle.mc_adapt.specs.Marks.{Marking, markings}
 use Rattle.mc_adapt.specs.Texts.{text_of}
-use Rattle.mc_adapt.specs.Outside.{Refusal, refusals_of, all_refusals}
+use Rattle.mc_adapt.specs.Outside.{refusals_of, all_refusals}
 use Rattle.mc_adapt.specs.Adapted.{Adapts}
 
 no_faults : (faults : List Fault) → length faults ≡ 0 → refusals_of faults ≡ []

@@ -1,3 +1,4 @@
 pub mod Lines
 pub mod Giving
 pub mod Once
+pub mod Left

@@ -6,7 +6,7 @@ use Rattle.adapt_tokens.specs.declared.kind.Kind.TheVariants as kind
 use Rattle.mc_adapt.specs.declared.state.State.{State}
 use Rattle.mc_adapt.specs.States.{start}
 use Rattle.mc_adapt.specs.Marks.{Marking, marked, markings}
-use Rattle.mc_adapt.specs.Texts.{written, takes_void, named_after, text_from, text_of}
+use Rattle.mc_adapt.specs.Texts.{written, takes_void, named_after, text_of}
 use Rattle.mc_adapt.specs.Outside.{Refusal}
 use Rattle.mc_adapt.specs.Adapted.{Adapts}
 

@@ -8,3 +8,4 @@ pub mod Outside
 pub mod Adapted
 pub mod Seen
 pub mod Laws
+pub mod Left

@@ -1,5 +1,5 @@
 -- All that stays outside the language.
-use Rattle.std.specs.Prelude.{ℕ, Bool, true, false, List, [], ◌∷◌, ◌++◌, map}
+use Rattle.std.specs.Prelude.{ℕ, List, [], ◌∷◌, ◌++◌, map}
 use Rattle.adapt_tokens.specs.Cuts.{Part}
 use Rattle.mc_adapt.specs.declared.state.Around.{Around}
 use Rattle.mc_adapt.specs.declared.state.Around.TheVariants as around

@@ -1,5 +1,5 @@
 -- What `adapt` has to know of a piece by itself.
-use Rattle.std.specs.Prelude.{ℕ, Bool, ◌&&◌, ◌||◌, ◌==◌, if◌then◌else◌, List, [], ◌∷◌, codes}
+use Rattle.std.specs.Prelude.{ℕ, ◌&&◌, ◌||◌, ◌==◌, if◌then◌else◌, List, [], ◌∷◌, codes}
 use Rattle.std.specs.Str.{bytes_eq}
 use Rattle.mc_lex.specs.Words.{one_of, keywords}
 use Rattle.mc_lex.specs.Numbers.{looks_floating}

@@ -1,5 +1,6 @@
 //! Laws of what `adapt` gives.
 ghost use Rattle.mc_adapt.specs.Laws as laws;
+ghost use Rattle.mc_adapt.specs.Left as left;
 
 /// Each source has something that `adapt` gives.
 pub fn each_source_adapts()
@@ -34,4 +35,9 @@ pub fn untouched_is_the_source()
 /// A line marker stays as it is.
 pub fn markers_stay()
     ensures { laws.MarkersStay }
+{}
+
+/// Where nothing is outside the language, no rule applies again to the tokens that are left.
+pub fn nothing_is_left_to_do()
+    ensures { left.NothingIsLeftToDo }
 {}
