@@ -15,9 +15,9 @@ layout_of m = record {
 -- the bits of entries come first, then those of exits and of counted statements
 abbrev pub after_bit : Layout → ℕ → Trail → Trail
 after_bit l bit t =
-    if nat_lt bit l.first_exit then entered bit t else
-    if nat_lt bit l.first_statement then exited (bit - l.first_exit) t else
-    if nat_lt bit l.first_label then began (bit - l.first_statement) t else t
+    if nat_lt bit l.first_statement
+    then (if nat_lt bit l.first_exit then entered bit t else exited (bit - l.first_exit) t)
+    else (if nat_lt bit l.first_label then began (bit - l.first_statement) t else t)
 
 abbrev pub after_bits : Layout → List ℕ → Trail → Trail
 after_bits l [] t = t

@@ -1,7 +1,8 @@
 //! A probe that keeps where a run is.
-ghost use Rattle.std.specs.Prelude.{◌≡◌, Some, IfOk, option_map};
+ghost use Rattle.std.specs.Prelude.{◌≡◌, ◌<◌, Some, IfOk, option_map};
 ghost use Rattle.mc_limits.specs.Limits.{most_bits};
 ghost use Rattle.interp_trail.specs.Kept.{Comes, fresh};
+ghost use Rattle.interp_trail.specs.Layouts.{after_bit};
 ghost use Rattle.interp_trail.specs.Stops.{stop_of};
 ghost use Rattle.interp_trail.specs.Trails.{began, entered, exited};
 
@@ -107,16 +108,32 @@ impl TrailProbe {
         self.exit = Some(exit);
     }
 
+    /// The bit of an entry or of an exit is hit. Few hits are, and most are of statements and of
+    /// decisions: so it is kept out of their way.
+    #[cold]
+    #[inline(never)]
+    fn cross(&mut self, bit: u32)
+        requires { bit < self.old.layout.first_statement }
+        ensures layout { self.new.layout ≡ self.old.layout }
+        ensures trail { Comes (option_map (after_bit self.old.layout bit) self.old.trail)
+            self.new.trail }
+    {
+        let first_exit = self.layout.first_exit;
+        if bit < first_exit {
+            self.enter(bit);
+        } else {
+            self.leave(bit - first_exit);
+        }
+    }
+
     /// A statement begins in the inner activation.
+    #[inline(always)]
     fn begin(&mut self, statement: u32)
         ensures layout { self.new.layout ≡ self.old.layout }
         ensures trail { self.new.trail ≡ option_map (began statement) self.old.trail }
     {
-        if let Some(inner) = self.inner {
-            self.inner = Some(Activation {
-                function: inner.function,
-                statement: Some(statement),
-            });
+        if let Some(inner) = &mut self.inner {
+            inner.statement = Some(statement);
         }
     }
 }
@@ -129,14 +146,12 @@ impl Probe for TrailProbe {
 
     ghost leads = { Leads };
 
+    #[inline(always)]
     fn hit(&mut self, bit: u32) {
-        let layout = self.layout;
-        if bit < layout.first_exit {
-            self.enter(bit);
-        } else if bit < layout.first_statement {
-            self.leave(bit - layout.first_exit);
-        } else if bit < layout.first_label {
-            self.begin(bit - layout.first_statement);
+        if bit < self.layout.first_statement {
+            self.cross(bit);
+        } else if bit < self.layout.first_label {
+            self.begin(bit - self.layout.first_statement);
         }
     }
 

@@ -13,21 +13,19 @@ use Rattle.mc_steps.specs.Events.{Event, Entered, Exited, Started, Chosen, Evalu
 -- the bit by its place
 module _ (a b c n : ℕ) (x y z t : Trail) where
   abbrev by_place : Trail
-  by_place = if nat_lt n a then x else if nat_lt n b then y else if nat_lt n c then z else t
+  by_place = if nat_lt n b then (if nat_lt n a then x else y) else (if nat_lt n c then z else t)
 
-  in_first : n < a → by_place ≡ x
-  in_first h = cond-true (nat_lt n a) _ _ (lt-ltb n a h)
+  in_first : n < a → n < b → by_place ≡ x
+  in_first h k = cond-true (nat_lt n b) _ _ (lt-ltb n b k) ∙ cond-true (nat_lt n a) _ _ (lt-ltb n a h)
 
   in_second : a ≤ n → n < b → by_place ≡ y
-  in_second h k = cond-false (nat_lt n a) _ _ (le-ltb n a h) ∙ cond-true (nat_lt n b) _ _ (lt-ltb n b k)
+  in_second h k = cond-true (nat_lt n b) _ _ (lt-ltb n b k) ∙ cond-false (nat_lt n a) _ _ (le-ltb n a h)
 
-  in_third : a ≤ n → b ≤ n → n < c → by_place ≡ z
-  in_third h k l =
-      cond-false (nat_lt n a) _ _ (le-ltb n a h) ∙ cond-false (nat_lt n b) _ _ (le-ltb n b k) ∙ cond-true (nat_lt n c) _ _ (lt-ltb n c l)
+  in_third : b ≤ n → n < c → by_place ≡ z
+  in_third h k = cond-false (nat_lt n b) _ _ (le-ltb n b h) ∙ cond-true (nat_lt n c) _ _ (lt-ltb n c k)
 
-  in_none : a ≤ n → b ≤ n → c ≤ n → by_place ≡ t
-  in_none h k l =
-      cond-false (nat_lt n a) _ _ (le-ltb n a h) ∙ cond-false (nat_lt n b) _ _ (le-ltb n b k) ∙ cond-false (nat_lt n c) _ _ (le-ltb n c l)
+  in_none : b ≤ n → c ≤ n → by_place ≡ t
+  in_none h k = cond-false (nat_lt n b) _ _ (le-ltb n b h) ∙ cond-false (nat_lt n c) _ _ (le-ltb n c k)
 
 -- the bits of a decision come after those before all decisions
 based_at : (ds : List Mapped) (from to k : ℕ) (v : Evaluation) → AreBased ds from to → IsVectorOf (slice_get ds k) v → from ≤ path_bit (slice_get ds k) v
@@ -43,20 +41,20 @@ later_on x e events c = (suc c.0, (let lt = c.1 in omega arith), c.2)
 
 module _ (m : Map) (kept : IsMap m) where
   same_step : (e : Event) (t : Trail) → IsEvent m e → after_bit (layout_of m) (image m e) t ≡ after_event e t
-  same_step (Entered f) t is = in_first (first_exit m) (first_statement m) (first_label m) f _ _ _ t is
+  same_step (Entered f) t is = in_first (first_exit m) (first_statement m) (first_label m) f _ _ _ t is (omega (arith, is))
   same_step (Exited k) t is =
       let place : first_exit m + k < first_statement m = omega (arith, is) in
       in_second (first_exit m) (first_statement m) (first_label m) (first_exit m + k) _ _ _ t (omega arith) place
       ∙ ap (λ n. exited n t) (omega arith)
   same_step (Started k) t is =
       let place : first_statement m + k < first_label m = omega (arith, is) in
-      in_third (first_exit m) (first_statement m) (first_label m) (first_statement m + k) _ _ _ t (omega arith) (omega arith) place
+      in_third (first_exit m) (first_statement m) (first_label m) (first_statement m + k) _ _ _ t (omega arith) place
       ∙ ap (λ n. began n t) (omega arith)
   same_step (Chosen k) t is =
-      in_none (first_exit m) (first_statement m) (first_label m) (first_label m + k) _ _ _ t (omega arith) (omega arith) (omega arith)
+      in_none (first_exit m) (first_statement m) (first_label m) (first_label m + k) _ _ _ t (omega arith) (omega arith)
   same_step (Evaluated d v) t is =
       let late = based_at m.decisions (first_path m) m.bits d v kept.based is in
-      in_none (first_exit m) (first_statement m) (first_label m) (image m (Evaluated d v)) _ _ _ t (omega (arith, late)) (omega (arith, late)) (omega (arith, late))
+      in_none (first_exit m) (first_statement m) (first_label m) (image m (Evaluated d v)) _ _ _ t (omega (arith, late)) (omega (arith, late))
 
   pub same_trail : (events : List Event) (t : Trail) → ((e : Event) → Contains events e → IsEvent m e) → after_bits (layout_of m) (map (image m) events) t ≡ after_events events t
   same_trail [] t are = refl

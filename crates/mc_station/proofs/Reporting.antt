@@ -1,5 +1,6 @@
 -- A command that judges the obligations has one reply, which is an answer.
-use Rattle.std.proofs.Common.{◌≡◌, ◌↔◌, ◌∙◌, ◌++◌, ℕ, List, None, length, sym, ap, subst}
+use Rattle.std.proofs.Common.{◌≡◌, ◌↔◌, ◌∙◌, ◌∷◌, ℕ, List, None, length, sym, ap, subst}
+use Rattle.std.specs.List.{concat}
 use Rattle.mc_command.specs.Command as command
 use Rattle.mc_command.specs.Command.{Telling}
 use Rattle.report_options.specs.declared.mode.Mode.{Mode}
@@ -64,7 +65,7 @@ one_told shown (command.needs of) m made r q (tokens, needs, lexes, are, is) (ot
     let parts = measured of made in
     let same_tokens : tokens ≡ others = (one_scan Plain made.source tokens others None None lexes scans).0 in
     let same_needs : needs ≡ also = one_answer shown m made.mode (asked_in parts) needs also are these in
-    is ∙ (λ i. written (functions_status parts) (needs_lines (needs_told (same_tokens i) m parts made.names (same_needs i)) ++ needs_sums parts (length (same_needs i).wanted))) ∙ sym other
+    is ∙ (λ i. written (functions_status parts) (concat (needs_lines (needs_told (same_tokens i) m parts made.names (same_needs i))) ∷ needs_sums parts (length (same_needs i).wanted))) ∙ sym other
 
 also_told : (shown stand : Event → ℕ → Type 0) (telling : Telling) (m : Map) (made : text.Report) (r : Reply) → ((e : Event) (t : ℕ) → shown e t ↔ stand e t)
     → TellsOf shown telling m made r → TellsOf stand telling m made r

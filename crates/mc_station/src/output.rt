@@ -15,7 +15,7 @@ use mc_record::write_record;
 /// What is put on the output once all has been decided: to put it takes no memory.
 #[derive(Drop)]
 pub enum Output<'a> {
-    /// Lines, each put as one piece.
+    /// Lines, or texts of several lines, each put as one piece.
     Lines(Vec<Vec<u8>>),
     /// The lines of a record.
     Record(Writable),

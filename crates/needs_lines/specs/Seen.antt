@@ -1,6 +1,5 @@
 -- What the program's values stand for.
 use Rattle.std.specs.Prelude.{map}
-pub use Rattle.mc_port.specs.Lines.{bytes_of}
 use Rattle.mc_lex.specs.Tokens.{toks_of}
 use Rattle.mc_probe.specs.Mapped.{mapped_of}
 use Rattle.needed_paths.specs.Seen.{needs_of}

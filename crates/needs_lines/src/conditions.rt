@@ -1,11 +1,11 @@
 //! The lines of the conditions of a decision.
+ghost use Rattle.std.specs.List.{concat};
 ghost use Rattle.std.specs.Prelude.{◌≡◌, ℕ, ◌++◌, ◌∷◌, [], None, Some, slice_index_or, IfOk, OnOk};
 ghost use Rattle.decide_rules.specs.Seen.{decision_of};
 ghost use Rattle.mc_cond.specs.Tree.{tree_of};
 ghost use Rattle.mc_probe.specs.Mapped.{mapped_of};
 ghost use Rattle.needs_lines.specs.Conditions.{asked_vectors, condition_line, condition_lines, values_text};
 ghost use Rattle.needs_lines.specs.Report.{IsOf};
-ghost use Rattle.needs_lines.specs.Seen.{bytes_of};
 
 use evidence_texts::{answer_byte, vector_of};
 use mc_cond::Vector;
@@ -47,56 +47,42 @@ fn push_values(line: &mut Vec<u8>, vectors: &[Vector], k: usize) -> Result<(), A
     Ok(())
 }
 
-fn condition_line(
-    alloc: Global,
-    source: &[u8],
-    vectors: &[Vector],
-    k: usize,
-    span: Span,
-) -> Result<Vec<u8>, AllocError>
-    ensures { IfOk result (λ line. line.items ≡ condition_line source.now vectors.now k span) }
-{
-    let text = one_line(alloc, bytes_at(source, span))?;
-    let mut line = Vec::new(alloc);
-    line.push(b' ')?;
-    push_values(&mut line, vectors, k)?;
-    line.push(b' ')?;
-    line.extend_from_slice(&text)?;
-    line.push(b'\n')?;
-    Ok(line)
-}
-
+/// Adds the line of condition `k`.
 fn push_condition(
     alloc: Global,
-    lines: &mut Vec<Vec<u8>>,
+    text: &mut Vec<u8>,
     source: &[u8],
     vectors: &[Vector],
     k: usize,
     span: Span,
 ) -> Result<(), AllocError>
-    ensures { OnOk result (bytes_of lines.new.items ≡ bytes_of lines.old.items
-        ++ condition_line source.now vectors.now k span ∷ []) }
+    ensures { OnOk result
+        (text.new.items ≡ text.old.items ++ condition_line source.now vectors.now k span) }
 {
-    let line = condition_line(alloc, source, vectors, k, span)?;
-    lines.push(line)?;
+    let shown = one_line(alloc, bytes_at(source, span))?;
+    text.push(b' ')?;
+    push_values(text, vectors, k)?;
+    text.push(b' ')?;
+    text.extend_from_slice(&shown)?;
+    text.push(b'\n')?;
     Ok(())
 }
 
 /// Adds a line for each condition.
 fn push_all(
     alloc: Global,
-    lines: &mut Vec<Vec<u8>>,
+    text: &mut Vec<u8>,
     source: &[u8],
     vectors: &[Vector],
     spans: &[Span],
 ) -> Result<(), AllocError>
-    ensures { OnOk result (bytes_of lines.new.items ≡ bytes_of lines.old.items
-        ++ condition_lines source.now vectors.now 0 spans.now) }
+    ensures { OnOk result (text.new.items ≡ text.old.items
+        ++ concat (condition_lines source.now vectors.now 0 spans.now)) }
 {
     let mut k = 0;
     let mut left = spans;
     while let [span, later @ ..] = left {
-        push_condition(alloc, lines, source, vectors, k, *span)?;
+        push_condition(alloc, text, source, vectors, k, *span)?;
         k += 1;
         left = later;
     }
@@ -129,16 +115,16 @@ fn asked_vectors(
 /// Adds a line for each condition of the decision, with the values that the need asks of it.
 pub(crate) fn push_conditions(
     alloc: Global,
-    lines: &mut Vec<Vec<u8>>,
+    text: &mut Vec<u8>,
     source: &[u8],
     mapped: &MappedDecision,
     need: Need,
 ) -> Result<(), AllocError>
     requires { (tests : ℕ) × IsOf tests (Some (mapped_of mapped.now)) (Some need) }
-    ensures { OnOk result (bytes_of lines.new.items ≡ bytes_of lines.old.items
+    ensures { OnOk result (text.new.items ≡ text.old.items
         ++ (let d = decision_of mapped.now.decision in
-        condition_lines source.now (asked_vectors d.tree need) 0 d.conditions)) }
+        concat (condition_lines source.now (asked_vectors d.tree need) 0 d.conditions))) }
 {
     let vectors = asked_vectors(alloc, mapped, need)?;
-    push_all(alloc, lines, source, &vectors, &mapped.decision.conditions)
+    push_all(alloc, text, source, &vectors, &mapped.decision.conditions)
 }

@@ -1,5 +1,5 @@
 //! The lines of the obligations that are asked about.
-ghost use Rattle.std.specs.Prelude.{◌≡◌, ◌++◌, Some, length, map, slice_get, IfOk, OnOk};
+ghost use Rattle.std.specs.Prelude.{◌≡◌, ◌++◌, Some, length, map, slice_get, OnOk};
 ghost use Rattle.needed_paths.specs.declared.need.Need.TheVariants.{Beside, Both};
 ghost use Rattle.mc_probe.specs.Mapped.{mapped_of};
 ghost use Rattle.needs_lines.specs.Needed.{head_line, need_text};
@@ -108,33 +108,27 @@ fn push_need(
     }
 }
 
-/// Which obligation it is, its place, and what it needs.
-pub(crate) fn head_line(
+/// Adds which obligation it is, its place, and what it needs.
+pub(crate) fn push_head(
     alloc: Global,
+    text: &mut Vec<u8>,
     report: &NeedsReport<'_>,
     obligation: &Obligation,
     need: Option<Need>,
-) -> Result<Vec<u8>, AllocError>
+) -> Result<(), AllocError>
     requires { let r = report_of report.now in
         IsOf (length r.names) (decision_of r.decisions obligation.now.id) need }
-    ensures { IfOk result (λ line.
-        line.items ≡ head_line (report_of report.now) obligation.now need) }
+    ensures { OnOk result (text.new.items ≡ text.old.items
+        ++ head_line (report_of report.now) obligation.now need) }
 {
     let id = id_text(alloc, obligation.id)?;
-    let mut line = Vec::new(alloc);
-    line.extend_from_slice(id.as_bytes())?;
-    line.push(b' ')?;
+    text.extend_from_slice(id.as_bytes())?;
+    text.push(b' ')?;
     report
         .places
-        .push_place(alloc, &mut line, obligation.span.start)?;
-    line.extend_from_slice(b" missing")?;
-    push_need(
-        &mut line,
-        report.names,
-        report.decisions,
-        obligation.id,
-        need,
-    )?;
-    line.push(b'\n')?;
-    Ok(line)
+        .push_place(alloc, text, obligation.span.start)?;
+    text.extend_from_slice(b" missing")?;
+    push_need(text, report.names, report.decisions, obligation.id, need)?;
+    text.push(b'\n')?;
+    Ok(())
 }

@@ -1,8 +1,8 @@
 //! The lines of wanted vectors.
-ghost use Rattle.std.specs.Prelude.{◌≡◌, ◌++◌, ◌∷◌, [], All, map, slice_get, IfOk, OnOk};
+ghost use Rattle.std.specs.Prelude.{◌≡◌, ◌++◌, All, map, slice_get, OnOk};
+ghost use Rattle.std.specs.List.{concat};
 ghost use Rattle.evidence_texts.specs.Paths.{HasPath};
 ghost use Rattle.mc_probe.specs.Mapped.{mapped_of};
-ghost use Rattle.needs_lines.specs.Seen.{bytes_of};
 ghost use Rattle.needs_lines.specs.Wanted.{condition_name, outcome_name, wanted_line};
 
 use evidence_texts::push_path;
@@ -45,56 +45,41 @@ fn push_condition(
     line.extend_from_slice(name.as_bytes())
 }
 
-fn wanted_line(
-    alloc: Global,
-    decisions: &[MappedDecision],
-    wanted: Wanted,
-) -> Result<Vec<u8>, AllocError>
-    requires { HasPath (slice_get (map mapped_of decisions.now) wanted.decision) wanted.path }
-    ensures { IfOk result (λ line.
-        line.items ≡ wanted_line (map mapped_of decisions.now) wanted) }
-{
-    let number = u64::from(wanted.decision) + 1;
-    let decision = format!(in alloc; "want D{number}")?;
-    let mut line = Vec::new(alloc);
-    line.extend_from_slice(decision.as_bytes())?;
-    push_path(&mut line, decisions, wanted.decision, wanted.path)?;
-    line.extend_from_slice(b" for")?;
-    push_outcome(alloc, &mut line, wanted.decision, wanted.outcome)?;
-    push_condition(alloc, &mut line, wanted.decision, wanted.condition)?;
-    line.push(b'\n')?;
-    Ok(line)
-}
-
 fn push_one(
     alloc: Global,
-    lines: &mut Vec<Vec<u8>>,
+    text: &mut Vec<u8>,
     decisions: &[MappedDecision],
     wanted: Wanted,
 ) -> Result<(), AllocError>
     requires { HasPath (slice_get (map mapped_of decisions.now) wanted.decision) wanted.path }
-    ensures { OnOk result (bytes_of lines.new.items ≡ bytes_of lines.old.items
-        ++ wanted_line (map mapped_of decisions.now) wanted ∷ []) }
+    ensures { OnOk result (text.new.items ≡ text.old.items
+        ++ wanted_line (map mapped_of decisions.now) wanted) }
 {
-    let line = wanted_line(alloc, decisions, wanted)?;
-    lines.push(line)?;
+    let number = u64::from(wanted.decision) + 1;
+    let decision = format!(in alloc; "want D{number}")?;
+    text.extend_from_slice(decision.as_bytes())?;
+    push_path(text, decisions, wanted.decision, wanted.path)?;
+    text.extend_from_slice(b" for")?;
+    push_outcome(alloc, text, wanted.decision, wanted.outcome)?;
+    push_condition(alloc, text, wanted.decision, wanted.condition)?;
+    text.push(b'\n')?;
     Ok(())
 }
 
 /// Adds a line for each wanted vector.
 pub(crate) fn push_wanted(
     alloc: Global,
-    lines: &mut Vec<Vec<u8>>,
+    text: &mut Vec<u8>,
     decisions: &[MappedDecision],
     all: &[Wanted],
 ) -> Result<(), AllocError>
     requires { All (λ w. HasPath (slice_get (map mapped_of decisions.now) w.decision) w.path)
         all.now }
-    ensures { OnOk result (bytes_of lines.new.items ≡ bytes_of lines.old.items
-        ++ map (wanted_line (map mapped_of decisions.now)) all.now) }
+    ensures { OnOk result (text.new.items ≡ text.old.items
+        ++ concat (map (wanted_line (map mapped_of decisions.now)) all.now)) }
 {
     for wanted in all {
-        push_one(alloc, lines, decisions, *wanted)?;
+        push_one(alloc, text, decisions, *wanted)?;
     }
     Ok(())
 }

@@ -11,6 +11,8 @@ pub enum Pieces {
     Tokens,
     /// Of each line of a listing its margin of 12 bytes, and what follows.
     Listing,
+    /// All lines before the last two, and each of these.
+    Sums,
 }
 
 /// The pieces that a word names.
@@ -20,6 +22,7 @@ pub fn pieces_named(word: &str) -> Option<Pieces> {
         "whole" => Some(Pieces::Whole),
         "tokens" => Some(Pieces::Tokens),
         "listing" => Some(Pieces::Listing),
+        "sums" => Some(Pieces::Sums),
         _ => None,
     }
 }
@@ -34,6 +37,23 @@ fn line_length(text: &[u8]) -> usize {
         }
     }
     count
+}
+
+// The length of what stands before the last two lines.
+fn length_before_sums(text: &[u8]) -> usize {
+    let mut before = 0_usize;
+    let mut last = 0_usize;
+    let mut count = 0_usize;
+    let mut begun = 0_usize;
+    for byte in text {
+        count = count.saturating_add(1);
+        if *byte == b'\n' {
+            before = last;
+            last = begun;
+            begun = count;
+        }
+    }
+    before
 }
 
 // The length of the first token, or of the blank or the end of a line that comes first.
@@ -57,6 +77,13 @@ fn piece_length(pieces: Pieces, number: u32, text: &[u8]) -> usize {
         Pieces::Listing => {
             if number % 2 == 1 {
                 12
+            } else {
+                line_length(text)
+            }
+        }
+        Pieces::Sums => {
+            if number == 1 {
+                length_before_sums(text)
             } else {
                 line_length(text)
             }

@@ -32,7 +32,7 @@ lines@4@0@reduce|s.c|t.csv
 lines@8@0@mutate|s.c|t.csv
 listing@2@0@list|s.c|t.csv
 lines@8@0@functions|s.c|t.csv
-lines@16@1@needs|s.c|none.csv
+sums@3@1@needs|s.c|none.csv
 lines@7@0@results|s.c|t.csv
 listing@6@1@list|l.c|none.csv
 ";

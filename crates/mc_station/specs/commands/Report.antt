@@ -1,6 +1,7 @@
 -- The commands that judge the obligations, `report`, `analyse`, `list`, `functions` and `needs`:
 -- each tells of one report.
-use Rattle.std.specs.Prelude.{◌≡◌, ◌++◌, ℕ, List, Ok, Option, length}
+use Rattle.std.specs.Prelude.{◌≡◌, ◌∷◌, ℕ, List, Ok, Option, length}
+use Rattle.std.specs.List.{concat}
 use Rattle.sha2.specs.Sha256.{sha256}
 use Rattle.mc_command.specs.Command as command
 use Rattle.mc_command.specs.Command.{Judging, Telling}
@@ -91,8 +92,8 @@ NeedsIn shown map mode parts names reply =
     × Lexes parts.source (Ok tokens)
     × AreNeeds shown map mode (asked_in parts) needs
     × (reply ≡ written (functions_status parts)
-    (needs_lines (needs_told tokens map parts names needs)
-    ++ needs_sums parts (length needs.wanted)))
+    (concat (needs_lines (needs_told tokens map parts names needs))
+    ∷ needs_sums parts (length needs.wanted)))
 
 -- what is told of a report on the source with this map
 abbrev pub TellsOf : (shown : Event → ℕ → Type 0) → Telling → Map → text.Report → Reply → Type 0

@@ -1,5 +1,6 @@
 //! The command `needs`.
-ghost use Rattle.std.specs.Prelude.{◌≡◌, ◌++◌, List, Ok, IfOk, length, option_map};
+ghost use Rattle.std.specs.Prelude.{◌≡◌, ◌∷◌, List, Ok, IfOk, length, option_map};
+ghost use Rattle.std.specs.List.{concat};
 ghost use Rattle.mc_functions.specs.Asked.{needs_sums};
 ghost use Rattle.mc_functions.specs.Seen.{measured_of};
 ghost use Rattle.mc_lex.specs.Tokens.{toks_of};
@@ -35,7 +36,7 @@ use mc_typed::Name;
 use needs_lines::{NeedsReport, needs_lines};
 use std::alloc::{AllocError, Global};
 
-// The lines on what is needed, and their sums.
+// The lines on what is needed as one text, and their sums.
 fn lines_of(
     alloc: Global,
     told: &NeedsReport<'_>,
@@ -43,10 +44,12 @@ fn lines_of(
 ) -> Result<Vec<Vec<u8>>, AllocError>
     requires told { CanBeTold (told_of told.now) }
     requires many { let m = measured_of measured.now in length m.verdicts ≡ length m.obligations }
-    ensures { IfOk result (λ lines. let r = told_of told.now in bytes_of lines.items
-        ≡ needs_lines r ++ needs_sums (measured_of measured.now) (length r.needs.wanted)) }
+    ensures { IfOk result (λ pieces. let r = told_of told.now in bytes_of pieces.items
+        ≡ concat (needs_lines r) ∷ needs_sums (measured_of measured.now)
+        (length r.needs.wanted)) }
 {
-    let mut lines = needs_lines(alloc, told)?;
+    let mut lines = Vec::new(alloc);
+    lines.push(needs_lines(alloc, told)?)?;
     push_needs_sums(alloc, &mut lines, measured, told.needs.wanted.len())?;
     Ok(lines)
 }
