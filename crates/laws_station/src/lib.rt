@@ -1,7 +1,9 @@
-//! Laws on the files of a command: when justifications are asked for, and what accepted files lead
-//! to. There is no code in it, but laws.
+//! Laws over all commands: what a reply with status 0 or 1 says, when justifications are asked for,
+//! and what accepted files lead to. There is no code in it, but laws.
 #![tactic(auto)]
 
 mod laws;
+mod texts;
 
 pub use laws::{accepted_files_give_texts, justifications_after_matrix};
+pub use texts::texts_are_of_files;

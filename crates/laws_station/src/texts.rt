@@ -1,0 +1,10 @@
+//! What a reply with status 0 or 1 says. The functions do nothing: each has a law as its contract.
+ghost use Rattle.laws_station.specs.Texts.{TextsAreCalled, TextsAreOfFiles, TextsHaveFiles};
+
+/// A reply with 0 or 1 comes exactly where all files of a command are accepted, and is what the
+/// command tells of them.
+pub fn texts_are_of_files()
+    ensures leads { TextsAreOfFiles }
+    ensures calls { TextsAreCalled }
+    ensures accepted { TextsHaveFiles }
+{}
