@@ -1,3 +1,4 @@
 pub mod Whole
 pub mod Accepting
 pub mod TextsOfFiles
+pub mod Reports

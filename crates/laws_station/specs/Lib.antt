@@ -1,3 +1,4 @@
 pub mod Whole
 pub mod Laws
 pub mod Texts
+pub mod Reports
