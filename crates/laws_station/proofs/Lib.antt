@@ -2,3 +2,4 @@ pub mod Whole
 pub mod Accepting
 pub mod TextsOfFiles
 pub mod Reports
+pub mod Ends

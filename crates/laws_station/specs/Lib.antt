@@ -2,3 +2,4 @@ pub mod Whole
 pub mod Laws
 pub mod Texts
 pub mod Reports
+pub mod Ends

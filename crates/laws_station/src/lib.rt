@@ -6,4 +6,4 @@ mod laws;
 mod texts;
 
 pub use laws::{accepted_files_give_texts, justifications_after_matrix};
-pub use texts::{reports_are_of_their_source, texts_are_of_files};
+pub use texts::{ends_are_told, reports_are_of_their_source, texts_are_of_files};

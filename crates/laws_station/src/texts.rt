@@ -1,4 +1,5 @@
 //! What a reply with status 0 or 1 says. The functions do nothing: each has a law as its contract.
+ghost use Rattle.laws_station.specs.Ends.{EndsAreTold};
 ghost use Rattle.laws_station.specs.Reports.{ReportsAreOfTheirSource};
 ghost use Rattle.laws_station.specs.Texts.{TextsAreCalled, TextsAreOfFiles, TextsHaveFiles};
 
@@ -15,4 +16,11 @@ pub fn texts_are_of_files()
     ensures leads { TextsAreOfFiles }
     ensures calls { TextsAreCalled }
     ensures accepted { TextsHaveFiles }
+{}
+
+/// Which of 0 and 1 it is: 0 where all tests passed and nothing that the command tells of is
+/// missing or stale or survives, and always for a text of the source alone, for a record of two,
+/// and for a source that the program makes itself.
+pub fn ends_are_told()
+    ensures { EndsAreTold }
 {}
