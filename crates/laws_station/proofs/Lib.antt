@@ -3,3 +3,4 @@ pub mod Accepting
 pub mod TextsOfFiles
 pub mod Reports
 pub mod Ends
+pub mod ByWorkers

@@ -3,3 +3,4 @@ pub mod Laws
 pub mod Texts
 pub mod Reports
 pub mod Ends
+pub mod Workers

@@ -1,9 +1,12 @@
-//! Laws over all commands: what a reply with status 0 or 1 says, when justifications are asked for,
-//! and what accepted files lead to. There is no code in it, but laws.
+//! Laws over all commands: what a reply with status 0 or 1 says, what the number of workers
+//! changes, when justifications are asked for, and what accepted files lead to. There is no code in
+//! it, but laws.
 #![tactic(auto)]
 
 mod laws;
 mod texts;
+mod workers;
 
 pub use laws::{accepted_files_give_texts, justifications_after_matrix};
 pub use texts::{ends_are_told, reports_are_of_their_source, texts_are_of_files};
+pub use workers::{workers_are_an_option, workers_change_nothing};
