@@ -4,3 +4,4 @@ pub mod TextsOfFiles
 pub mod Reports
 pub mod Ends
 pub mod ByWorkers
+pub mod SingleCases

@@ -4,3 +4,4 @@ pub mod Texts
 pub mod Reports
 pub mod Ends
 pub mod Workers
+pub mod Cases
