@@ -5,3 +5,9 @@ pub mod Reports
 pub mod Ends
 pub mod ByWorkers
 pub mod SingleCases
+pub mod Alike
+pub mod Digests
+pub mod Files
+pub mod Sound
+pub mod Reading
+pub mod Analysed

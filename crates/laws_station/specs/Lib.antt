@@ -5,3 +5,5 @@ pub mod Reports
 pub mod Ends
 pub mod Workers
 pub mod Cases
+pub mod Asking
+pub mod Analysed

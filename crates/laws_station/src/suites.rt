@@ -1,0 +1,13 @@
+//! What several calls on the tests of one source say. The functions do nothing: each has a law as
+//! its contract.
+ghost use Rattle.laws_station.specs.Analysed.{AnalysisIsReport};
+
+use mc_grammar::laws::tree_is_no_longer_than_text;
+
+/// `analyse` writes of a record what `report` writes of its tests, with the same verdicts, counts,
+/// reasons and status, but for the values and outputs of the tests.
+pub fn analysis_is_report()
+    ensures { AnalysisIsReport }
+{
+    tree_is_no_longer_than_text();
+}
