@@ -11,3 +11,4 @@ pub mod Files
 pub mod Sound
 pub mod Reading
 pub mod Analysed
+pub mod Joined

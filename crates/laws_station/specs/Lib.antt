@@ -7,3 +7,4 @@ pub mod Workers
 pub mod Cases
 pub mod Asking
 pub mod Analysed
+pub mod Joined

@@ -1,7 +1,9 @@
 //! What several calls on the tests of one source say. The functions do nothing: each has a law as
 //! its contract.
 ghost use Rattle.laws_station.specs.Analysed.{AnalysisIsReport};
+ghost use Rattle.laws_station.specs.Joined.{MergeIsRecord};
 
+use mc_core::words_follow_from_pairs;
 use mc_grammar::laws::tree_is_no_longer_than_text;
 
 /// `analyse` writes of a record what `report` writes of its tests, with the same verdicts, counts,
@@ -10,4 +12,13 @@ pub fn analysis_is_report()
     ensures { AnalysisIsReport }
 {
     tree_is_no_longer_than_text();
+}
+
+/// `merge` writes of the records of two parts of a tests file the record of the whole, byte for
+/// byte.
+pub fn merge_is_record()
+    ensures { MergeIsRecord }
+{
+    tree_is_no_longer_than_text();
+    words_follow_from_pairs();
 }
