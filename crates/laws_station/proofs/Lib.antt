@@ -12,3 +12,4 @@ pub mod Sound
 pub mod Reading
 pub mod Analysed
 pub mod Joined
+pub mod Reduced

@@ -8,3 +8,4 @@ pub mod Cases
 pub mod Asking
 pub mod Analysed
 pub mod Joined
+pub mod Reduced

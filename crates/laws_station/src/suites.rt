@@ -2,6 +2,7 @@
 //! its contract.
 ghost use Rattle.laws_station.specs.Analysed.{AnalysisIsReport};
 ghost use Rattle.laws_station.specs.Joined.{MergeIsRecord};
+ghost use Rattle.laws_station.specs.Reduced.{KeptShowAll};
 
 use mc_core::words_follow_from_pairs;
 use mc_grammar::laws::tree_is_no_longer_than_text;
@@ -22,3 +23,8 @@ pub fn merge_is_record()
     tree_is_no_longer_than_text();
     words_follow_from_pairs();
 }
+
+/// A report on the tests that `reduce` keeps says of each obligation what the report on all says.
+pub fn kept_show_all()
+    ensures { KeptShowAll }
+{}
