@@ -1,8 +1,5 @@
 //! The functions do nothing: each has a law as its contract.
-ghost use Rattle.laws_records.specs.Again.{NewRulesRead};
 ghost use Rattle.laws_records.specs.Texts.{OldTextsAreRefused, UnknownVersionsAreRefused, TextsAreRead};
-
-use mc_record::written_is_read;
 
 /// A text is read as a record exactly where it is the text of that record, in a version that is
 /// accepted, and the record is one of the source.
@@ -20,10 +17,3 @@ pub fn old_texts_are_refused()
 pub fn unknown_versions_are_refused()
     ensures { UnknownVersionsAreRefused }
 {}
-
-/// What was written is read where the rules of version 1 do not hold.
-pub fn new_rules_read()
-    ensures { NewRulesRead }
-{
-    written_is_read();
-}

@@ -4,6 +4,4 @@
 
 mod laws;
 
-pub use laws::{
-    new_rules_read, old_texts_are_refused, texts_are_read, unknown_versions_are_refused,
-};
+pub use laws::{old_texts_are_refused, texts_are_read, unknown_versions_are_refused};
