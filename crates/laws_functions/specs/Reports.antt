@@ -3,12 +3,8 @@ use Rattle.std.specs.Prelude.{◌≡◌, ◌≤◌, length, None}
 use Rattle.mc_oblige.specs.declared.obligation.ObligationId.{ObligationId}
 use Rattle.mc_oblige.specs.declared.verdict.VerdictState.{VerdictState}
 use Rattle.mc_report.specs.Report.{Report}
-use Rattle.mc_report.specs.declared.kind.Kind as report_kind
-use Rattle.mc_report.specs.declared.kind.Kind.TheVariants as words
 use Rattle.mc_report.specs.Counts as report
 use Rattle.mc_report.specs.Status as report_status
-use Rattle.mc_functions.specs.declared.kind.Kind.{Kind}
-use Rattle.mc_functions.specs.declared.kind.Kind.TheVariants as own
 use Rattle.mc_functions.specs.Kinds.{kind_of, same_kind}
 use Rattle.mc_functions.specs.Counts.{of_kind, of_verdict}
 use Rattle.mc_functions.specs.Measured.{Measured, names_of, row_of}
@@ -36,23 +32,6 @@ FunctionsAreReports =
     sum_below (length (names_of (measured r)))
     (λ k. of_verdict state (of_kind kind (row_of (measured r) k)))
     ≡ report.counted reported state r.obligations r.verdicts
-
--- the word of a report's summary for a kind
-abbrev pub kind_in_report : Kind → report_kind.Kind
-kind_in_report own.Entries = words.Entries
-kind_in_report own.Exits = words.Exits
-kind_in_report own.Statements = words.Statements
-kind_in_report own.Labels = words.Labels
-kind_in_report own.Outcomes = words.Outcomes
-kind_in_report own.Conditions = words.Conditions
-
--- so it is of each of the six kinds
-abbrev pub EachKindIsReports : Type 0
-EachKindIsReports =
-    (r : Report) (kind : Kind) (state : VerdictState) → 1 ≤ length (names_of (measured r)) →
-    sum_below (length (names_of (measured r)))
-    (λ k. of_verdict state (of_kind kind (row_of (measured r) k)))
-    ≡ report.counted (kind_in_report kind) state r.obligations r.verdicts
 
 -- the status of the counts in all files is that of the report
 abbrev pub StatusIsReports : Type 0

@@ -1,17 +1,10 @@
 //! The functions do nothing: each has a law as its contract.
-ghost use Rattle.laws_functions.specs.Reports.{EachKindIsReports, FunctionsAreReports, StatusIsReports};
+ghost use Rattle.laws_functions.specs.Reports.{FunctionsAreReports, StatusIsReports};
 
 /// The counts of a kind over all functions are those of the report.
 pub fn functions_are_reports()
     ensures { FunctionsAreReports }
 {}
-
-/// So it is of entries, exits, statements, labels, outcomes and conditions.
-pub fn each_kind_is_reports()
-    ensures { EachKindIsReports }
-{
-    functions_are_reports();
-}
 
 /// The status of the counts of all obligations is that of the report.
 pub fn status_is_reports()

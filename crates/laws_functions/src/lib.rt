@@ -3,4 +3,4 @@
 
 mod laws;
 
-pub use laws::{each_kind_is_reports, functions_are_reports, status_is_reports};
+pub use laws::{functions_are_reports, status_is_reports};
