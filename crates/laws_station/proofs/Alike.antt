@@ -1,5 +1,5 @@
 -- Two calls on one source and one file have one content of it.
-use Rattle.std.proofs.Common.{◌≡◌, ◌∙◌, ℕ, false, List, Option, Some, Ok, sym, ap, subst}
+use Rattle.std.proofs.Common.{◌≡◌, ℕ, false, List, Option, Some, Ok, sym, subst}
 use Rattle.mc_command.specs.Command.{Action, Command, command_of}
 use Rattle.mc_port.specs.Store.{Files}
 use Rattle.mc_record.specs.Kept.{Kept}

@@ -1,12 +1,11 @@
 -- The analysis of a record says what the report says.
-use Rattle.std.proofs.Common.{◌≡◌, ◌∙◌, ◌≤◌, ℕ, false, List, Option, Some, None, Ok, refl, sym, ap, subst}
+use Rattle.std.proofs.Common.{◌≡◌, ◌∙◌, ◌≤◌, ℕ, false, List, Some, None, Ok, refl, sym, ap, subst}
 use Rattle.std.specs.List.{concat}
 use Rattle.sha2.specs.Sha256.{sha256}
 use Rattle.mc_limits.specs.Limits.{most_words}
 use Rattle.mc_command.specs.Command as command
 use Rattle.mc_command.specs.Command.{Judging, Telling, file_told}
 use Rattle.mc_grammar.specs.Laws.{TreeIsNoLonger}
-use Rattle.mc_steps.specs.Events.{Event}
 use Rattle.mc_typed.specs.Plans.{Plan}
 use Rattle.mc_port.specs.Store.{Files}
 use Rattle.mc_oblige.specs.Shown.{HasEvent}
@@ -18,13 +17,11 @@ use Rattle.mc_record.specs.Kept.{Kept}
 use Rattle.mc_record.specs.Lines.{record_lines}
 use Rattle.mc_report.specs.Report.{Report}
 use Rattle.report_options.specs.declared.form.Form.{Form}
-use Rattle.station_replies.specs.Files.{Holds}
 use Rattle.station_replies.specs.Reply.{Reply}
 use Rattle.mc_station.specs.Causes.{RecordIs, SourceIs}
 use Rattle.mc_station.specs.Named.{HasFile, makes_source}
 use Rattle.mc_station.specs.Records.{JudgesRecord}
-use Rattle.mc_station.specs.Source.{Accepted, JudgesSource}
-use Rattle.mc_station.specs.Stages.{record_named}
+use Rattle.mc_station.specs.Source.{Accepted}
 use Rattle.mc_station.specs.Tests.{stands, tested_of, words_needed}
 use Rattle.mc_station.specs.commands.Analyse.{tested_in}
 use Rattle.mc_station.specs.commands.Record.{IsRecordOf, Records}
@@ -32,7 +29,7 @@ use Rattle.mc_station.specs.commands.Report.{IsReportOn, JudgesOn, TellsOf, repo
 use Rattle.mc_station.proofs.Naming.{plain_source_of}
 use Rattle.laws_recorded.proofs.Recorded.{verdicts_are_kept}
 use Rattle.laws_recorded.specs.Recorded.{IsRecorded}
-use Rattle.laws_station.specs.Texts.{AreReasons, IsOfFiles}
+use Rattle.laws_station.specs.Texts.{IsOfFiles}
 use Rattle.laws_station.specs.Analysed.{AnalysisIsReport, text_of, without_results}
 use Rattle.laws_station.specs.Asking.{Asks, IsKept, Writes, runs}
 use Rattle.mc_station.specs.Calls.{Call}

@@ -1,10 +1,10 @@
 -- The number of workers changes no reply.
-use Rattle.std.proofs.Common.{◌≡◌, ◌∙◌, ◌⊎◌, ◌↔◌, ℕ, List, Option, Some, None, Result, Ok, Err, refl, sym, ap, subst, inl, inr}
+use Rattle.std.proofs.Common.{◌≡◌, ◌∙◌, ℕ, List, Option, Some, None, Result, Ok, Err, refl, sym, ap, subst, inl, inr}
 use Rattle.mc_core.specs.Laws.{WordsFollowFromPairs}
 use Rattle.mc_command.specs.Command as command
 use Rattle.mc_command.specs.Command.{Action, Command, command_of}
 use Rattle.mc_port.specs.Store.{Files, and_asked}
-use Rattle.station_replies.specs.Files.{File, request_of}
+use Rattle.station_replies.specs.Files.{request_of}
 use Rattle.station_replies.specs.Reply.{Reply}
 use Rattle.mc_station.specs.Calls as calls
 use Rattle.mc_station.specs.Calls.{Call, Leads, LeadsTo, Requests}
@@ -13,7 +13,7 @@ use Rattle.mc_station.specs.Source.{Accepted}
 use Rattle.mc_station.specs.Stages as stages
 use Rattle.mc_station.specs.Stages.{Ends, Judges, Stage, after_source, after_tests, file_of, first_stage, justified_by}
 use Rattle.mc_station.proofs.Unique.{one_reply}
-use Rattle.laws_station.specs.Workers.{DifferInWorkers, WorkersCallAlike, WorkersLeadAlike, WorkersReplyAlike, shared, shared_action}
+use Rattle.laws_station.specs.Workers.{WorkersCallAlike, WorkersLeadAlike, WorkersReplyAlike, shared, shared_action}
 
 module _ (n : ℕ) where
   -- a stage that this many workers share

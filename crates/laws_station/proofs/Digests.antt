@@ -1,5 +1,5 @@
 -- A digest is 32 bytes.
-use Rattle.std.proofs.Common.{◌≡◌, ◌<◌, ◌/◌, ◌^◌, ℕ, zero, suc, All, List, arith}
+use Rattle.std.proofs.Common.{◌<◌, ◌/◌, ◌^◌, ℕ, zero, suc, All, List, arith}
 use Rattle.std.specs.Prelude.{slice_index}
 use Rattle.std.specs.Int.{byte_at, bytes_high_first, to_be_bytes, w32}
 use Rattle.std.proofs.Math.Nat.{mod-lt}

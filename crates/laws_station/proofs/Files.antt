@@ -1,5 +1,5 @@
 -- What an accepted tests file keeps: its tests have names, which differ, and there are few enough.
-use Rattle.std.proofs.Common.{◌≡◌, ◌∙◌, ◌≤◌, ◌+◌, ℕ, Bool, true, false, not, ◌&&◌, if◌then◌else◌, List, [], ◌∷◌, ◌++◌, length, map, nat_le, Option, Some, None, Result, Ok, Err, refl, sym, ap, subst, arith, inl, inr, true≢false}
+use Rattle.std.proofs.Common.{◌≡◌, ◌≤◌, ◌+◌, ℕ, Bool, true, false, not, ◌&&◌, if◌then◌else◌, List, [], ◌∷◌, ◌++◌, length, nat_le, Option, Some, None, Result, Ok, Err, refl, subst, arith, inl, inr}
 use Rattle.std.specs.Prelude.{◌==◌}
 use Rattle.std.specs.List.{list_all}
 use Rattle.std.specs.Str.{bytes_eq}
@@ -15,7 +15,7 @@ use Rattle.plan_fields.specs.Fields.{Numbers, call_field, is_header, is_printabl
 use Rattle.mc_tests.specs.declared.fault.TestFault.{TestFault}
 use Rattle.mc_tests.specs.declared.fault.TestFault.TheVariants as fault
 use Rattle.mc_tests.specs.Lines.{Line, called, function_named, line_of, numbered}
-use Rattle.mc_tests.specs.Tests.{are_distinct, before_tests, is_small, keeps_limits, names_of, test_of, tests_fault, tests_of}
+use Rattle.mc_tests.specs.Tests.{are_distinct, before_tests, is_small, keeps_limits, names_of, tests_fault, tests_of}
 use Rattle.mc_tests.specs.File.{after_line, records_from, rows_file, tests_file, unless_fault}
 
 -- ---- each name is one

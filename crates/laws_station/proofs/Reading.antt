@@ -1,5 +1,5 @@
 -- What `record` writes of a source's tests is read as the record of these tests.
-use Rattle.std.proofs.Common.{◌≡◌, ◌≢◌, ◌∙◌, ◌≤◌, ◌↔◌, ℕ, All, Bool, true, false, IsTrue, not, ◌&&◌, List, [], ◌∷◌, length, map, Ok, refl, sym, ap, subst, arith, true≢false}
+use Rattle.std.proofs.Common.{◌≡◌, ◌≢◌, ◌∙◌, ◌≤◌, ◌↔◌, ℕ, All, Bool, true, false, IsTrue, not, ◌&&◌, List, [], ◌∷◌, length, Ok, refl, sym, ap, subst, arith, true≢false}
 use Rattle.std.specs.List.{concat, list_all, list_any}
 use Rattle.std.specs.Str.{bytes_eq}
 use Rattle.std.proofs.lemmas.Bool.{and_from, and_parts}
@@ -27,7 +27,7 @@ use Rattle.mc_record.specs.Reading.{record_of}
 use Rattle.mc_record.proofs.Composed.{written_read}
 use Rattle.mc_station.specs.Records.{HasOldBits, JudgesRecord}
 use Rattle.mc_station.specs.Source.{Accepted}
-use Rattle.mc_station.specs.Tests.{names, shape_of, states, words_needed}
+use Rattle.mc_station.specs.Tests.{names, states, words_needed}
 use Rattle.mc_station.specs.commands.Record.{IsRecordOf}
 use Rattle.laws_station.proofs.Digests.{digest}
 use Rattle.laws_station.proofs.Files.{AreKept}

@@ -1,7 +1,7 @@
 -- What the kept tests show is what all show.
 use Rattle.std.proofs.Common.{◌≡◌, ◌∙◌, ◌<◌, ◌↔◌, ◌⊎◌, ℕ, zero, suc, Bool, true, false, List, [], ◌∷◌, length, map, Option, Some, None, Ok, refl, sym, ap, subst, arith, inl, inr, true≢false}
-use Rattle.std.specs.Prelude.{Contains, is_some, slice_get, slice_index_or}
-use Rattle.std.proofs.lemmas.Bool.{cases_Bool, false_from_ne_true}
+use Rattle.std.specs.Prelude.{Contains, is_some, slice_get}
+use Rattle.std.proofs.lemmas.Bool.{false_from_ne_true}
 use Rattle.std.proofs.lemmas.List.{length-map}
 use Rattle.std.proofs.lemmas.Option.{slice_get_within}
 use Rattle.mc_command.specs.Command as command
@@ -10,19 +10,18 @@ use Rattle.mc_cond.specs.Tree.{Tree}
 use Rattle.mc_meaning.specs.Tests.{Stands}
 use Rattle.mc_oblige.specs.Evidence.{IsEvaluated, IsShown}
 use Rattle.mc_oblige.specs.Obligations.{obligations_of}
-use Rattle.mc_oblige.specs.Verdicts.{AreVerdicts, AreVerdictsFrom, is_shown, state_of}
+use Rattle.mc_oblige.specs.Verdicts.{AreVerdictsFrom, is_shown, state_of}
 use Rattle.mc_oblige.specs.declared.justification.Justification.{Justification}
 use Rattle.mc_oblige.specs.declared.obligation.Obligation.{Obligation}
 use Rattle.mc_oblige.specs.declared.obligation.ObligationId.{ObligationId}
 use Rattle.mc_oblige.specs.declared.obligation.ObligationId.TheVariants.{Entry, Exit, Statement, Label, Outcome, Condition}
 use Rattle.mc_oblige.specs.declared.verdict.Verdict.{Verdict}
-use Rattle.mc_oblige.specs.declared.verdict.VerdictState.{VerdictState}
 use Rattle.mc_port.specs.Store.{Files}
 use Rattle.mc_probe.specs.Maps.{Map, Mapped}
 use Rattle.mc_reduce.specs.Kept.{AreKept}
-use Rattle.mc_reduce.specs.Shown.{AreShowing, HavePair, IsConditionShown, IsShownByAll, IsShownBy, StandsKept}
+use Rattle.mc_reduce.specs.Shown.{AreShowing, IsConditionShown, IsShownByAll, StandsKept}
 use Rattle.mc_reduce.proofs.Judging.{evidence_shown}
-use Rattle.mc_reduce.proofs.Keeping.{kept_is_test, kept_show}
+use Rattle.mc_reduce.proofs.Keeping.{kept_show}
 use Rattle.mc_report.specs.Report.{Report}
 use Rattle.mc_steps.specs.Events.{Event}
 use Rattle.mc_typed.specs.Plans.{Plan}
@@ -35,7 +34,7 @@ use Rattle.mc_station.specs.Source.{Accepted}
 use Rattle.mc_station.specs.Stages.{reasons_named}
 use Rattle.mc_station.proofs.Contents.{same_bytes}
 use Rattle.mc_station.specs.Tests.{names, stands, tested_of}
-use Rattle.mc_station.specs.commands.Report.{IsReportOn, TellsOf, report}
+use Rattle.mc_station.specs.commands.Report.{IsReportOn, TellsOf}
 use Rattle.laws_station.specs.Texts.{AreReasons, IsOfFiles}
 use Rattle.laws_station.specs.Analysed.{text_of}
 use Rattle.mc_station.specs.commands.Reduce.{reduced_lines}

@@ -1,27 +1,20 @@
 -- A report is of its source.
-use Rattle.std.proofs.Common.{◌≡◌, ◌∙◌, ◌≤◌, ◌↔◌, ℕ, List, [], map, Option, Some, None, Ok, refl, sym, ap, subst}
-use Rattle.mc_limits.specs.Limits.{most_words}
+use Rattle.std.proofs.Common.{◌≡◌, ◌∙◌, ℕ, List, Option, Some, None, Ok, refl, sym, ap, subst}
 use Rattle.mc_command.specs.Command as command
 use Rattle.mc_command.specs.Command.{Command, Judging, Run, Task, Telling, command_of, file_told}
 use Rattle.report_options.specs.declared.form.Form.{Form}
-use Rattle.mc_steps.specs.Events.{Event}
 use Rattle.mc_typed.specs.Plans.{Plan}
-use Rattle.mc_probe.specs.Maps.{Map}
 use Rattle.mc_oblige.specs.declared.justification.Justification.{Justification}
-use Rattle.mc_oblige.specs.declared.verdict.Verdict.{Verdict}
-use Rattle.mc_oblige.specs.Verdicts.{AreVerdicts}
 use Rattle.mc_port.specs.Store.{Files}
 use Rattle.mc_report.specs.Forms.{lines_in_form}
 use Rattle.mc_report.specs.Report.{Report}
 use Rattle.mc_report.specs.Status.{status_of}
 use Rattle.station_replies.specs.Reply.{Reply, written}
-use Rattle.mc_station.specs.Calls.{Call, CallsFor}
-use Rattle.mc_station.specs.Causes.{IsOfText, SourceIs}
-use Rattle.mc_station.specs.Named.{HasFile, JudgesSourceOf, file_of_action, file_of_task}
+use Rattle.mc_station.specs.Causes.{SourceIs}
+use Rattle.mc_station.specs.Named.{HasFile, file_of_action, file_of_task}
 use Rattle.mc_station.specs.Source.{Accepted, JudgesSource}
-use Rattle.mc_station.specs.Stages.{Allows, Tells, justified_by, source_named}
-use Rattle.mc_station.specs.Tests.{stands, tested_of, words_needed}
-use Rattle.mc_station.specs.commands.Report as made
+use Rattle.mc_station.specs.Stages.{Allows, Tells, justified_by}
+use Rattle.mc_station.specs.Tests.{stands}
 use Rattle.mc_station.specs.commands.Report.{TellsOf}
 use Rattle.mc_station.proofs.Naming.{plain_source_of}
 use Rattle.laws_station.specs.Reports.{AreJustified, IsProgramOf, IsReportOn, ReportsAreOfTheirSource, report_of}

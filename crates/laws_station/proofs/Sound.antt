@@ -1,5 +1,5 @@
 -- The program of an accepted source is sound.
-use Rattle.std.proofs.Common.{◌≡◌, ◌≤◌, ◌<◌, ◌^◌, ℕ, List, length, Some, None, Ok, sym, subst, arith}
+use Rattle.std.proofs.Common.{◌≡◌, ◌≤◌, ◌<◌, ◌^◌, ℕ, List, length, Ok, sym, subst, arith}
 use Rattle.mc_limits.specs.Limits.{most_source_bytes}
 use Rattle.mc_grammar.specs.Laws.{TreeIsNoLonger}
 use Rattle.mc_lex.specs.declared.token.Dialect.TheVariants.{Plain}

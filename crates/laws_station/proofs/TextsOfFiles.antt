@@ -1,5 +1,5 @@
 -- A reply with 0 or 1 is of the files of its command.
-use Rattle.std.proofs.Common.{◌≡◌, ◌∙◌, ◌≤◌, ◌↔◌, ℕ, List, [], Option, Some, None, Ok, Err, true, false, if◌then◌else◌, refl, sym, ap, subst, inl, inr}
+use Rattle.std.proofs.Common.{◌≡◌, ℕ, List, [], Option, Some, None, Ok, Err, true, false, if◌then◌else◌, refl, sym, ap, subst, inl, inr}
 use Rattle.std.specs.Prelude.{◌==◌}
 use Rattle.mc_command.specs.Command as command
 use Rattle.mc_command.specs.Command.{Action, Command, MatrixTask, SourceText, Task, command_of}
@@ -20,18 +20,18 @@ use Rattle.station_replies.specs.declared.status.Status.{Status}
 use Rattle.station_replies.specs.declared.status.Status.TheVariants as status
 use Rattle.mc_station.specs.Calls as calls
 use Rattle.mc_station.specs.Calls.{Call, CallsFor, Leads, Requests}
-use Rattle.mc_station.specs.Causes.{IsOfText, RecordIs, SourceIs, TestsAre}
+use Rattle.mc_station.specs.Causes.{IsOfText, RecordIs}
 use Rattle.mc_station.specs.Source.{Accepted}
 use Rattle.mc_station.specs.Stages as stages
 use Rattle.mc_station.specs.Stages.{Allows, Ends, Judges, Stage, Tells, TellsOnMatrix, Writes, after_source, after_tests, file_of, first_stage, justified_by}
 use Rattle.mc_station.specs.Tests.{stands, tested_of}
 use Rattle.mc_station.specs.commands.Analyse.{tested_in}
-use Rattle.mc_station.specs.commands.Merge.{IsJoined, Joins, Merges, pair_reply}
+use Rattle.mc_station.specs.commands.Merge.{IsJoined, Merges, pair_reply}
 use Rattle.mc_station.specs.commands.Selfload.{LoadsItself}
 use Rattle.mc_station.proofs.Allowing.{asked}
 use Rattle.mc_station.proofs.Causes.{of_matrix, of_mutants, of_record, of_source, of_source_of}
 use Rattle.mc_station.proofs.Reporting.{IsWritten, judged_whole}
-use Rattle.laws_station.specs.Texts.{AreReasons, AreTests, IsOfFiles, IsOfOthers, TextsAreCalled, TextsAreOfFiles, TextsHaveFiles}
+use Rattle.laws_station.specs.Texts.{AreReasons, IsOfFiles, IsOfOthers, TextsAreCalled, TextsAreOfFiles, TextsHaveFiles}
 use Rattle.laws_station.specs.Whole.{FilesAreAccepted, OthersAreAccepted, ReasonsAre, ReasonsAreAccepted}
 
 -- ---- statuses of texts

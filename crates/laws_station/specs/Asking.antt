@@ -1,5 +1,5 @@
 -- Calls on the tests of one source: what they ask for, and what they write.
-use Rattle.std.specs.Prelude.{◌≡◌, ℕ, List, Some, Option}
+use Rattle.std.specs.Prelude.{◌≡◌, ℕ, List, Some}
 use Rattle.std.specs.List.{concat}
 use Rattle.mc_command.specs.Command as command
 use Rattle.mc_command.specs.Command.{Command, MatrixTask, command_of}

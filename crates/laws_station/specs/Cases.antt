@@ -1,5 +1,5 @@
 -- What definitions of statuses, of files and of `watch` do not hold of.
-use Rattle.std.specs.Prelude.{◌≡◌, ℕ, List, Option, Some, None}
+use Rattle.std.specs.Prelude.{ℕ, List, Option, Some, None}
 use Rattle.mc_command.specs.Command as command
 use Rattle.mc_command.specs.Command.{Judging, MatrixTask, SourceText}
 use Rattle.mc_port.specs.Store.{Files}

@@ -1,8 +1,7 @@
 -- The number of workers changes no reply.
-use Rattle.std.specs.Prelude.{◌≡◌, ◌⊎◌, ◌↔◌, ℕ, List, [], ◌∷◌, Option, Some, None, codes}
+use Rattle.std.specs.Prelude.{◌≡◌, ◌⊎◌, ◌↔◌, ℕ, List, [], ◌∷◌, Some, None, codes}
 use Rattle.mc_command.specs.Command as command
 use Rattle.mc_command.specs.Command.{Action, Command, command_of}
-use Rattle.mc_port.specs.Store.{Files}
 use Rattle.report_options.specs.declared.form.Form.TheVariants.{Text}
 use Rattle.report_options.specs.declared.mode.Mode.TheVariants.{Unique}
 use Rattle.station_replies.specs.Phases.{AreOne}
