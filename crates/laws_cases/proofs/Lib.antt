@@ -2,3 +2,4 @@ pub mod Told
 pub mod NoType
 pub mod Large
 pub mod Tables
+pub mod SkippedTests

@@ -6,3 +6,5 @@ pub mod Decisions
 pub mod TestsFiles
 pub mod Stores
 pub mod Types
+pub mod Generated
+pub mod Skipped

@@ -2,16 +2,20 @@
 #![tactic(auto)]
 
 mod decisions;
+mod generated;
 mod grammar;
 mod names;
+mod skipped;
 mod stores;
 mod tests_files;
 mod types;
 mod vectors;
 
 pub use decisions::large_is_at_its_root;
+pub use generated::source_of_four;
 pub use grammar::{qualifier_is_no_type, sections_have_an_end};
 pub use names::{each_text_is_told, texts_on_names};
+pub use skipped::skipped_show_nothing;
 pub use stores::activations_are_unset;
 pub use tests_files::fields_are_told;
 pub use types::{

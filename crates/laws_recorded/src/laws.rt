@@ -1,5 +1,15 @@
 //! The functions do nothing: each has a law as its contract.
-ghost use Rattle.laws_recorded.specs.Recorded.{EventsAreKept, PathsAreKept, VerdictsAreKept};
+ghost use Rattle.laws_recorded.specs.Recorded.{EventsAreKept, PathsAreKept, RunsAreRecorded, VerdictsAreKept};
+
+use mc_runner::bits_stand;
+
+/// What the runs of tests hit on an instrumented program is a matrix of the bits of the events that
+/// stand.
+pub fn runs_are_recorded()
+    ensures { RunsAreRecorded }
+{
+    bits_stand();
+}
 
 /// A matrix of the bits of the events that stand has an event under a test exactly where it stands
 /// there in the plain runs.

@@ -4,4 +4,4 @@
 
 mod laws;
 
-pub use laws::{events_are_kept, paths_are_kept, verdicts_are_kept};
+pub use laws::{events_are_kept, paths_are_kept, runs_are_recorded, verdicts_are_kept};

@@ -1,2 +1,15 @@
 pub mod Whole
 pub mod Accepting
+pub mod TextsOfFiles
+pub mod Reports
+pub mod Ends
+pub mod ByWorkers
+pub mod SingleCases
+pub mod Alike
+pub mod Digests
+pub mod Files
+pub mod Sound
+pub mod Reading
+pub mod Analysed
+pub mod Joined
+pub mod Reduced

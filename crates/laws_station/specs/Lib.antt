@@ -1,2 +1,11 @@
 pub mod Whole
 pub mod Laws
+pub mod Texts
+pub mod Reports
+pub mod Ends
+pub mod Workers
+pub mod Cases
+pub mod Asking
+pub mod Analysed
+pub mod Joined
+pub mod Reduced
