@@ -1,6 +1,6 @@
 -- Tests that a closer skips.
-use Rattle.std.proofs.Common.{◌≡◌, ◌<◌, ◌↔◌, ℕ, zero, suc, List, [], ◌∷◌, length, refl, arith}
-use Rattle.std.specs.Prelude.{Contains, slice_index_or}
+use Rattle.std.proofs.Common.{ℕ, zero, suc, [], ◌∷◌, refl, arith}
+use Rattle.std.specs.Prelude.{Contains}
 use Rattle.laws_cases.specs.Skipped.{FirstIsNotSkipped, SkippedShowNothing}
 
 none : (test : ℕ) → ¬ Contains [] test
