@@ -3,3 +3,5 @@ pub mod NoType
 pub mod Large
 pub mod Tables
 pub mod SkippedTests
+pub mod Rows
+pub mod Units

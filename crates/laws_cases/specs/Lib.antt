@@ -8,3 +8,5 @@ pub mod Stores
 pub mod Types
 pub mod Generated
 pub mod Skipped
+pub mod TypeTables
+pub mod TypeTrees

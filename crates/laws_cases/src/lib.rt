@@ -8,6 +8,8 @@ mod names;
 mod skipped;
 mod stores;
 mod tests_files;
+mod type_tables;
+mod type_trees;
 mod types;
 mod vectors;
 
@@ -18,6 +20,8 @@ pub use names::{each_text_is_told, texts_on_names};
 pub use skipped::skipped_show_nothing;
 pub use stores::activations_are_unset;
 pub use tests_files::fields_are_told;
+pub use type_tables::{tables_are_told, wrong_rows_are_none};
+pub use type_trees::{each_unit_has_places, expressions_are_read};
 pub use types::{
     conversion_is_implied, names_have_no_fault, roots_stand_in_the_body, tables_are_whole,
 };
