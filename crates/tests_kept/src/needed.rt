@@ -1,8 +1,6 @@
-//! Runs of `needs` over a store and sinks in memory.
+//! Runs of `needs`.
 
-use mc_cover::PlainCloser;
-use mc_port::{MemorySink, MemoryStore, OpenGate, Words};
-use mc_station::station;
+use crate::run::{Setting, gives};
 use std::alloc::Global;
 use std::thread::Threads;
 use tests_memory::Fail;
